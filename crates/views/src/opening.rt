@@ -14,14 +14,19 @@ use spaces::{Config, first_words};
 use std::alloc::{AllocError, Global};
 use std::marker::Brand;
 
+/// How many tickets a hart has.
+pub(crate) const TICKETS: u64 = MAX_TICKETS as u64;
+
 /// The words of all frames at the opening, and the cells, which are 0.
 fn board_words(alloc: Global, config: &Config) -> Result<Vec<u64>, AllocError>
     requires { MeetsLimits MAX_LIVE_FRAMES config.now }
     ensures { IfOk result (λ words. words.items ≡ board_words (layout_of config.now)) }
 {
     let mut words = first_words(alloc, config)?;
-    let harts = usize::from(config.harts);
-    words.resize(words.len() + harts * harts * MAX_TICKETS, 0)?;
+    let harts = u64::from(config.harts);
+    for _at in 0..harts * harts * TICKETS {
+        words.push(0)?;
+    }
     Ok(words)
 }
 
