@@ -3,7 +3,7 @@
 #
 #     scripts/refuse_memory.sh
 #
-# Needs a C compiler under the name of $CC or cc, a C library that has __libc_malloc (glibc), and two programs that are proved
+# Needs Python, a C compiler under the name of $CC or cc, a C library that has __libc_malloc (glibc), and two programs that are proved
 # and built: `rt run` in crates/memory_tests, and `rt run -- walk data/walk.toml` in crates/svsim. Each of their requests for
 # memory is refused in turn, once alone and once with all that come after it. memory_tests is to print its usual lines, or
 # `no memory` in their place with status 5; svsim its usual lines, or none (of watch the
@@ -115,7 +115,7 @@ svsim_answers() {
 # watch prints as it reads: where memory ends, the lines before stand.
 watch_answers() {
     case $1 in
-    1) cmp -s "$own/out" "$own/usual" && [ ! -s "$own/err" ] ;;
+    0 | 1) cmp -s "$own/out" "$own/usual" && [ ! -s "$own/err" ] ;;
     5) head -c "$(wc -c <"$own/out")" "$own/usual" | cmp -s - "$own/out" && grep -qx 'svsim: no memory' "$own/err" && [ "$(wc -l <"$own/err")" = 1 ] ;;
     *) false ;;
     esac
@@ -159,5 +159,18 @@ for file in "$top"/examples/*.toml; do
     refuse_each svsim_answers 0 "$svsim" run "$file"
 done
 refuse_each watch_answers 1 "$svsim" watch "$top/examples/watch/left-out-hart.trace"
+# Small traces of kinds that are hard on memory, each with the status that it usually has.
+while read -r kind size status; do
+    python3 "$top/scripts/dear.py" --print "$kind" "$size" >"$own/$kind.trace"
+    refuse_each watch_answers "$status" "$svsim" watch "$own/$kind.trace"
+done <<'KINDS'
+dropped_in_front 40 0
+held_only 40 0
+empty_places 8 0
+fences_by_asid 20 0
+flap_many 1 0
+claims_of_a_root 4 1
+notes_in_one_row 40 0
+KINDS
 echo "$passed passed, $failed failed"
 [ "$failed" = 0 ]
