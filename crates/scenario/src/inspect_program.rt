@@ -176,7 +176,8 @@ fn run<R: Read, W: Write>(
 /// to 5 one line goes to `err`, as far as it takes it; its own faults count for nothing. `check`
 /// writes what is wrong with a faulty file to `out`, at 2 and 3 too, if the file is UTF-8; the
 /// others write nothing then. `file` is the file's name in the line. No more than 1,048,577 bytes
-/// are read, and any error of the reader but an interruption is `cannot read`.
+/// are read. A read that fails is `cannot read`; one that a signal interrupts is tried again
+/// (`read_retrying`).
 pub fn inspect_command<R: Read, W: Write, E: Write>(
     alloc: Global,
     inspection: Inspection,

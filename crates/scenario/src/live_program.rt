@@ -120,7 +120,8 @@ fn run<T: Threads + Wait + Sync, R: Read, W: Write, G: Gate + Sync>(
 /// 0 done, 2 not read, too large, or not TOML, 3 a refused scenario, 4 the output failed, 5 no
 /// memory or no thread. At all but 0 one line goes to `err`, as far as it takes it; its own faults
 /// count for nothing. `file` is the file's name in the line. No more than 1,048,577 bytes are read,
-/// and any error of the reader but an interruption is `cannot read`.
+/// and a read that fails is `cannot read`; one that a signal interrupts is tried again
+/// (`read_retrying`).
 pub fn live_command<T: Threads + Wait + Sync, R: Read, W: Write, E: Write, G: Gate + Sync>(
     rt: &T,
     alloc: Global,

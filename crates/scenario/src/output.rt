@@ -7,8 +7,8 @@ use files::Fault;
 use std::io::Write;
 use watch_report::write_retrying;
 
-/// Writes all of the bytes. An error of the writer but an interruption, or a write of no bytes, ends
-/// it at once.
+/// Writes all of the bytes. A write that fails, or writes no bytes, ends it at once; one that a signal
+/// interrupts is tried again (`write_retrying`).
 pub fn write_whole<W: Write>(out: &mut W, bytes: &[u8]) -> Result<(), Fault>
     ensures ok { OnOk result (Appends (W.contents out.old) (W.contents out.new) bytes.now) }
     ensures err { OnErr result (AppendsFront (W.contents out.old) (W.contents out.new) bytes.now) }

@@ -151,8 +151,8 @@ pub(crate) fn report<E: Write>(alloc: Global, file: &str, trouble: &Trouble, err
 /// Does a command on the file that `input` reads, and answers the status of the program: 0 done, 2
 /// not read, too large, or not TOML, 3 a refused scenario, 4 the output failed, 5 out of memory. At
 /// all but 0 one line goes to `err`, as far as it takes it; its own faults count for nothing.
-/// `file` is the file's name in the line. No more than 1,048,577 bytes are read, and any error of
-/// the reader but an interruption is `cannot read`.
+/// `file` is the file's name in the line. No more than 1,048,577 bytes are read. A read that fails is
+/// `cannot read`; one that a signal interrupts is tried again (`read_retrying`).
 pub fn command<R: Read, W: Write, E: Write>(
     alloc: Global,
     which: Which,

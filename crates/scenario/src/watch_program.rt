@@ -29,8 +29,9 @@ fn trouble_of(fault: ReportFault) -> Trouble
 /// without a verdict, 1 done, with some, 2 not read, 3 a line that is none of a trace, 4 the output
 /// failed, 5 out of memory. The line of a verdict goes to `out` as soon as its record is read, and
 /// stays at 2 to 5; then one line goes to `err`, as far as it takes it; its own faults count for
-/// nothing. `file` is the trace's name in the line. A trace and its lines may have any length, and
-/// any error of the reader but an interruption or want of memory is `cannot read`.
+/// nothing. `file` is the trace's name in the line. A trace and its lines may have any length. A read
+/// that fails is `cannot read`, but for want of memory; one that a signal interrupts is tried again
+/// (`read_retrying`).
 pub fn watch_command<R: Read + Drop, W: Write, E: Write>(
     alloc: Global,
     file: &str,

@@ -13,7 +13,8 @@ Follows words since trace w =
     Stands w.scheme trace (words w.tables) (since w.tables) w.satps.spaces.items w.roots
     (items_of w.held.slots.items) w.left w.drops.fences.items w.fences.items w.claims.items w.count
 
--- all that a watch keeps is as before, but for what harts may hold: of that more may be written down
+-- What a refused record leaves as it was: tables, satps, roots, spaces that were left, fences, claims
+-- and the count of records. Of the list of held translations nothing is said, nor of cached ways.
 abbrev pub KeepsAll : {T : Type 0} {g : Ghosts T} → (T → Tables) → (T → ℕ → ℕ → ℕ) → Watch T g → Watch T g → Type 0
 KeepsAll words since old new =
     (words new.tables ≡ words old.tables)

@@ -27,7 +27,7 @@ use std::alloc::{AllocError, Global};
 use thiserror::Error;
 use watch::{Claim, Frames, Record, RemoteFence, Space};
 
-/// Why a record is not taken: nothing has changed.
+/// Why a record is not taken. The watch still follows the records before it.
 #[derive(Clone, Copy, PartialEq, Eq, Debug, Error)]
 pub enum RecordFault {
     /// There is not enough memory.
@@ -377,8 +377,9 @@ impl<T: Tables> Watch<T> {
     /// Takes the next record, and answers its warnings: each verdict that is given at the record and
     /// new, each once, where translations that differ only in A and D, or if they are global only in
     /// root and ASID, share one. `TooManyRecords` exactly if 2^64 - 1 records have been taken, and
-    /// `NoMemory` only where memory runs out: then the watch still follows the trace before, and keeps
-    /// no more than before, but that more of what harts may hold may be written down.
+    /// `NoMemory` only where memory runs out. The watch then still follows the trace before. The list
+    /// of held translations may be longer, other ways to tables may be cached, and the list of satps
+    /// may have more harts without a space; all else stays.
     pub fn record(&mut self, newest: Record) -> Result<Vec<Warning>, RecordFault>
         ensures scheme { self.new.scheme ≡ self.old.scheme }
         ensures warnings { (trace : Trace) → Follows T.words T.since trace self.old

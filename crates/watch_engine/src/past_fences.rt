@@ -226,8 +226,8 @@ impl FenceKeys {
 #[derive(Drop)]
 pub(crate) struct PastFences {
     pub(crate) fences: Vec<PastFence>,
-    /// Keys for entries of 4 KiB: of all fences, unless nobody asked or there was no memory. Without them
-    /// all fences are asked.
+    /// Keys for entries of 4 KiB: of all fences, unless no hart had left a space or there was no memory.
+    /// Without them the fences since the hart left are scanned.
     small: FenceKeys,
     /// Those for entries of 2 MiB.
     large: FenceKeys,

@@ -7,8 +7,8 @@ use crate::fault::ReportFault;
 use crate::retry::write_retrying;
 use std::io::Write;
 
-/// Writes all of the bytes. An error of the writer but an interruption, or a write of no bytes, ends
-/// it at once.
+/// Writes all of the bytes. A write that fails, or writes no bytes, ends it at once; one that a signal
+/// interrupts is tried again (`write_retrying`).
 pub fn write_whole<W: Write>(out: &mut W, bytes: &[u8]) -> Result<(), ReportFault>
     ensures ok { OnOk result (Appends (W.contents out.old) (W.contents out.new) bytes.now) }
     ensures err { OnErr result (AppendsFront (W.contents out.old) (W.contents out.new) bytes.now) }

@@ -10,7 +10,7 @@ use std::io::{ErrorKind, Read, Write};
 /// How often one read or write is tried.
 const MOST_TRIES: u32 = 65_536;
 
-/// One read. While it is interrupted it is tried again, 65,536 times at most.
+/// One read. While a signal interrupts it, it is tried up to 65,536 times.
 pub fn read_retrying<R: Read>(input: &mut R, buffer: &mut [u8]) -> io::Result<usize>
     ensures bound { ReadsAtMost result buffer.new }
     ensures bytes { ReadConsumes (R.remaining input.old) (R.remaining input.new) result buffer.new }
@@ -29,7 +29,7 @@ pub fn read_retrying<R: Read>(input: &mut R, buffer: &mut [u8]) -> io::Result<us
     Err(io::Error::from(ErrorKind::TimedOut))
 }
 
-/// One write. While it is interrupted it is tried again, 65,536 times at most.
+/// One write. While a signal interrupts it, it is tried up to 65,536 times.
 pub fn write_retrying<W: Write>(out: &mut W, bytes: &[u8]) -> io::Result<usize>
     ensures bound { WritesAtMost result bytes.now }
     ensures bytes { WriteAppends (W.contents out.old) (W.contents out.new) result bytes.now }
