@@ -9,8 +9,6 @@ mod lanes;
 mod layout;
 mod legend;
 mod picture;
-#[cfg(test)]
-mod random;
 mod record;
 mod recorder;
 mod rows;

@@ -21,11 +21,6 @@ use itoa::Buffer;
 use pte::Page;
 use std::alloc::{AllocError, Global};
 
-#[cfg(test)]
-mod at_start;
-#[cfg(test)]
-mod made_pictures;
-
 /// How far below the last row a bar goes on that had not ended there.
 const TAIL: u64 = 12;
 

@@ -17,9 +17,6 @@ use stale::{
 use std::alloc::{AllocError, Global};
 use stepcore::{Event, Machine, Reply};
 
-#[cfg(test)]
-pub mod asked_always;
-
 /// A run while it is recorded: what is open, and what has ended.
 #[derive(Drop)]
 struct Recorder {

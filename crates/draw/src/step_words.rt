@@ -13,11 +13,6 @@ use spaces::Place;
 use std::alloc::AllocError;
 use stepcore::{Event, Reply};
 
-#[cfg(test)]
-mod at_start;
-#[cfg(test)]
-mod made_steps;
-
 /// The hart that makes a step.
 pub fn hart_of(event: &Event) -> u8 {
     match *event {
