@@ -42,11 +42,24 @@ def blocks(text):
 
 def has_lines(shown, printed):
     """Whether the lines printed are those shown, where `..` stands for any lines."""
-    if not shown:
-        return not printed
-    if shown[0] != "..":
-        return printed[:1] == shown[:1] and has_lines(shown[1:], printed[1:])
-    return any(has_lines(shown[1:], printed[at:]) for at in range(len(printed) + 1))
+    pieces = [[]]
+    for line in shown:
+        if line == "..":
+            pieces.append([])
+        else:
+            pieces[-1].append(line)
+    first, last = pieces[0], pieces[-1]
+    if len(pieces) == 1:
+        return printed == first
+    at, end = len(first), len(printed) - len(last)
+    if printed[:at] != first or printed[end:] != last or end < at:
+        return False
+    for piece in pieces[1:-1]:
+        places = [start for start in range(at, end - len(piece) + 1) if printed[start : start + len(piece)] == piece]
+        if not places:
+            return False
+        at = places[0] + len(piece)
+    return True
 
 
 def calls(lines):
