@@ -64,12 +64,13 @@ def has_lines(shown, printed):
 
 def calls(lines):
     """The commands of a block, each with the lines that are shown of what it prints."""
+    found = []
     for line in lines:
         if line.startswith("$ "):
-            call, shown = line[2:], []
-            yield call, shown
+            found.append((line[2:], []))
         else:
-            shown.append(line)
+            found[-1][1].append(line)
+    return found
 
 
 def run(call, folder):
