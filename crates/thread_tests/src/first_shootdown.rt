@@ -31,11 +31,11 @@ fn shoot_down(zero: &mut HartPort, one: &mut HartPort, page: Page) -> Result<Col
 
 #[test]
 fn frame_is_free_when_done(rt: HostRuntime) -> Result<(), Fail> {
-    let (Some(va), Ok((_board, mut ports))) = (
-        VirtAddr::new(0x1000),
-        Board::open(rt.alloc(), &Config::with_harts(2)),
-    ) else {
-        return Err(Fail::new("no address, or no board"));
+    let Some(va) = VirtAddr::new(0x1000) else {
+        return Err(Fail::new("no address"));
+    };
+    let Ok((_board, mut ports)) = Board::open(rt.alloc(), &Config::with_harts(2)) else {
+        return Err(Fail::new("no board"));
     };
     let (Some(mut one), Some(mut zero)) = (ports.pop(), ports.pop()) else {
         return Err(Fail::new("no ports"));
