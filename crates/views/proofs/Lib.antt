@@ -6,6 +6,7 @@ pub mod Keeps
 pub mod WalkKeeps
 pub mod EditKeeps
 pub mod Goings
+pub mod OwnLoads
 pub mod Homeward
 pub mod Deals
 pub mod OrderKeeps
