@@ -7,3 +7,4 @@ pub mod Turns
 pub mod Walks
 pub mod Edits
 pub mod Lasting
+pub mod Gathered
