@@ -6,6 +6,7 @@ ghost use Rattle.board.specs.Promises.{AcceptedOrdersBegin, AcceptedUnmappingIsL
 ghost use Rattle.board.specs.Collects.{LooksInOrder};
 ghost use Rattle.board.specs.Ports.{NewPortsHaveDoneNothing};
 ghost use Rattle.board.specs.Reports.{CountsAddUp, pairs_of};
+ghost use Rattle.board.specs.Together.{CollectedIsGoneFromTlbs, CollectedTlbsHoldOnlySince, DoneIsGoneFromTlbs};
 
 /// The pairs of three harts, in the order of a report.
 pub fn pairs_of_three_harts()
@@ -53,4 +54,13 @@ pub fn new_ports_have_done_nothing()
 /// A look for acknowledgements goes from hart to hart, the lowest first, once to each.
 pub fn looks_in_order()
     ensures { LooksInOrder }
+{}
+
+/// Where ports share a state, as clause `together` of `Board::close` says, and one of them was
+/// answered Done for an unmapping, no TLB of a port whose hart was named translates an address of
+/// the page, until a leaf is mapped over it.
+pub fn done_is_gone_from_tlbs()
+    ensures named { DoneIsGoneFromTlbs }
+    ensures collected { CollectedIsGoneFromTlbs }
+    ensures since { CollectedTlbsHoldOnlySince }
 {}

@@ -278,6 +278,7 @@ impl HartPort {
     ghost use Rattle.shoot.specs.declared.tickets.Collected.TheVariants as collected;
     ghost use Rattle.board.specs.Collects.{AreAllCollected};
     ghost use Rattle.board.specs.Promises.{IsDoneClean};
+    ghost use Rattle.board.specs.Together.{KnowsItself};
     ghost use Rattle.board.specs.Ports.{inbox_from, IsNew, IsPort, name_of, outbox_to};
     ghost use Rattle.board.specs.Answers.{ack_self_answer, after_ack_self, after_close_to, after_finish_of, after_flush, after_no_post, after_post, after_serve, close_answer, finish_answer, flush_answer, flush_refusal, is_there, post_refusal, request_of, ticket_refusal};
 
@@ -318,16 +319,31 @@ impl HartPort {
         }
     }
 
-    /// The ends by which the hart posts and takes.
-    pub(crate) fn into_ends(self) -> (Vec<Option<Outbox>>, Vec<Option<Receiver>>)
-        ensures { (result.0.items ≡ self.outboxes) × (result.1.items ≡ self.inboxes) }
+    /// What the port is made of: its hart's seat, the words that it steps on, and the ends by which
+    /// the hart posts and takes.
+    pub(crate) fn into_parts(
+        self,
+    ) -> (
+        Seat,
+        Arc<Memory, Global>,
+        Vec<Option<Outbox>>,
+        Vec<Option<Receiver>>,
+    )
+        ensures seat { (result.0.table_id ≡ self.table) × (result.0.view ≡ self.view) }
+        ensures words { ((arc_value result.1).shared.table_id ≡ self.table)
+            × (0 < self.table.words) }
+        ensures ends { (result.2.items ≡ self.outboxes) × (result.3.items ≡ self.inboxes) }
+        ensures own { KnowsItself self }
     {
+        self.seat.held();
         let HartPort {
+            seat,
+            memory,
             outboxes,
             inboxes,
             ..
         } = self;
-        (outboxes, inboxes)
+        (seat, memory, outboxes, inboxes)
     }
 
     /// How many harts there are.

@@ -24,3 +24,4 @@ pub mod Asking
 pub mod NoLeaf
 pub mod WindowGlobal
 pub mod Lasting
+pub mod Gathering

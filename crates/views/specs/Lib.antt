@@ -8,3 +8,4 @@ pub mod Walks
 pub mod Reads
 pub mod Edits
 pub mod Lasting
+pub mod Gathered

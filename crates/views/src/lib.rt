@@ -4,6 +4,7 @@
 
 mod cells;
 mod edits;
+mod gathered;
 mod laws;
 mod opening;
 mod rule;
@@ -15,6 +16,7 @@ mod walks;
 
 pub use cells::{arm, collect, open_order};
 pub use edits::{decide, edit, store};
+pub use gathered::Gathered;
 pub use laws::{
     acknowledged_holds_since, acknowledged_is_clean, cells_are_apart, cells_meet,
     collected_holds_since, collected_is_clean, each_edit_is_one_store, each_read_is_of_an_own_load,
@@ -31,5 +33,5 @@ pub use rule::{Deal, Memory, Rule, To, Turn, Words};
 pub use seat::Seat;
 pub use services::{serve, serve_self};
 pub use steps::{load_first, load_next, read_home, store_edit};
-pub use view::{Cause, CellStep, Order, Read, View};
+pub use view::{Cause, CellStep, Order, Read, SeatView, View};
 pub use walks::{walk, walk_from_root};

@@ -7,6 +7,7 @@ ghost use Rattle.tlb.specs.Service.{after_service};
 ghost use Rattle.atomic_table.specs.Table.{Splits};
 ghost use Rattle.spaces.specs.Layout.{layout_of};
 ghost use Rattle.views.specs.Rule.{dealer, dealt};
+ghost use Rattle.views.specs.Gathered.{in_use};
 ghost use Rattle.views.specs.Board.{Board, Steps};
 ghost use Rattle.views.specs.OnBoard.{IsOnBoard, IsWithin, new_seat};
 ghost use Rattle.views.specs.OrderTurns.{IsTold};
@@ -29,6 +30,7 @@ pub struct Seat {
 
 impl Model for Seat {
     ghost use Rattle.std.specs.Prelude.{◌≡◌, []};
+    ghost use Rattle.views.specs.Gathered.{in_use};
     ghost use Rattle.views.specs.OnBoard.{IsWithin, SeatState};
 
     ghost Value = { SeatState };
@@ -36,11 +38,12 @@ impl Model for Seat {
     ghost view = { λ s. record {
       table_id = s.right.table_id;
       id = s.right.id;
-      view = s.right.me.0;
+      view = s.right.me.0.view;
       tlb = s.tlb;
     } };
 
-    ghost invariant = { λ s. (s.right.me.1 ≡ []) × IsWithin s.tlb.entries s.right.me.0.entries };
+    ghost invariant = { λ s. (s.right.me ≡ (in_use s.right.me.0.view, []))
+        × IsWithin s.tlb.entries s.right.me.0.view.entries };
 }
 
 /// One load of a shared word, after which the view still holds what is in the TLB, and says of what
@@ -89,8 +92,8 @@ pub(crate) fn store<T: Turn, Of>(words: &Words, seat: &mut Seat, word: usize, ne
 impl Seat {
     /// A seat with an empty TLB of a scheme.
     pub(crate) fn new(right: Right, scheme: Scheme) -> Seat
-        requires { right.me.1 ≡ [] }
-        ensures { result ≡ new_seat right.table_id right.id right.me.0 scheme }
+        requires { right.me ≡ (in_use right.me.0.view, []) }
+        ensures { result ≡ new_seat right.table_id right.id right.me.0.view scheme }
     {
         Seat {
             right,
@@ -110,6 +113,15 @@ impl Seat {
     {
         let right = words.split_seat::<Deal>(&mut self.right);
         Seat::new(right, scheme)
+    }
+
+    /// The right of the seat alone.
+    pub(crate) fn into_right(self) -> Right
+        ensures table { result.table_id ≡ self.table_id }
+        ensures seat { result.me ≡ (in_use self.view, []) }
+    {
+        let Seat { right, tlb: _ } = self;
+        right
     }
 
     /// The oldest entry of the TLB whose page has the address and that is global or of the ASID.
