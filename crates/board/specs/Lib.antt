@@ -9,3 +9,4 @@ pub mod Tables
 pub mod Ties
 pub mod Collects
 pub mod Promises
+pub mod Calls
