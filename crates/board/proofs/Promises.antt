@@ -36,7 +36,7 @@ use Rattle.board.specs.Collects.{AreAllCollected}
 use Rattle.board.specs.Promises.{AcceptedOrdersBegin, AcceptedUnmappingIsLive, HasView, HoldsOnlySince, IsDoneClean, IsGone, StaysClean, TranslateNoneHoldsNone}
 
 -- the open order is one of the orders
-find-order : (ticket : ℕ) (ks : List Order) (k : Order) → order_of_ticket ticket ks ≡ Some k → (n : ℕ) × (get_elem? ks n ≡ some k)
+pub find-order : (ticket : ℕ) (ks : List Order) (k : Order) → order_of_ticket ticket ks ≡ Some k → (n : ℕ) × (get_elem? ks n ≡ some k)
 find-order ticket [] k e = absurd (let bad : None ≡ Some k = e in cc)
 find-order ticket (x ∷ xs) k e = by (x.ticket == ticket) e (find-order ticket xs k)
   where

@@ -10,3 +10,4 @@ pub mod Ties
 pub mod Collects
 pub mod Promises
 pub mod Together
+pub mod Calls
