@@ -3,8 +3,8 @@
 #
 #     scripts/wrapper.sh
 #
-# What the proved program answers, and an unproved run, is not tried here. Needs coreutils, findutils and awk. The last line is
-# `N passed, M failed`.
+# What the proved program answers, and an unproved build, is not tried here. Needs coreutils, findutils, util-linux and awk. The last
+# line is `N passed, M failed`.
 set -u
 unset CDPATH
 top=$(cd "$(dirname "$0")/.." && pwd)
@@ -14,9 +14,9 @@ trap 'exit 130' HUP INT TERM
 passed=0
 failed=0
 
-# The part of the toolchain: its version, builds of a program that prints `proved`, and a run that answers what stands in `lines`,
-# `trouble` and `status` and keeps the file that it was given.
-mkdir "$own/bin" "$own/tree" "$own/tree/crates" "$own/tree/crates/svsim"
+# The part of the toolchain: its version, builds of a program that prints `proved`, and a build that answers each case by what stands
+# in `lines`, `trouble` and `status`, keeps the file that it was given, and counts how often it was called.
+mkdir "$own/bin" "$own/tree" "$own/tree/crates" "$own/tree/crates/svsim" "$own/tree/examples" "$own/tree/examples/watch"
 cat >"$own/bin/rt" <<'RT'
 #!/bin/sh
 play=${0%/bin/rt}
@@ -24,13 +24,20 @@ case $1 in
 version) cat "$play/version" ;;
 run) mkdir -p out && printf '#!/bin/sh\necho proved\n' >out/svsim && chmod +x out/svsim ;;
 try)
-    given=
-    for word in "$@"; do case $word in scenario=*) given=${word#scenario=} ;; esac; done
-    if [ -n "$given" ]; then cp "$given" "$play/given"; else rm -f "$play/given"; fi
-    cat "$play/lines"
-    cat "$play/trouble" >&2
-    printf 'interpreter: no-answer\nchecked: ended\nraces: not looked for\nrun=ended status=%s\n' "$(cat "$play/status")" >&2
-    exit "$(cat "$play/status")" ;;
+    for word in "$@"; do cases=$word; done
+    echo built >>"$play/builds"
+    sleep "$(cat "$play/seconds")"
+    for args in "$cases"/*.args; do
+        name=${args##*/}
+        name=${name%.args}
+        cp "$cases/$name" "$play/given"
+        echo "== $name"
+        cat "$play/lines"
+        echo "line of $(head -n 1 "$args")"
+        cat "$play/trouble" >&2
+        echo "case=$name run=ended status=$(cat "$play/status") runners=1 proved=no" >&2
+    done
+    echo 'cases=1 ended=1 fault=0 differs=0 no-answer=0 proved=no' >&2 ;;
 esac
 RT
 chmod +x "$own/bin/rt"
@@ -38,10 +45,15 @@ PATH=$own/bin:$PATH
 cp "$top/svsim" "$own/tree/svsim"
 echo 'svsim: scenario' >"$own/tree/crates.txt"
 echo one >"$own/version"
-printf 'an unproved line\n' >"$own/lines"
+: >"$own/lines"
 : >"$own/trouble"
+: >"$own/builds"
 echo 0 >"$own/status"
+echo 0 >"$own/seconds"
 echo 'steps = []' >"$own/file.toml"
+echo 'a walk' >"$own/tree/examples/first.toml"
+echo 'a run' >"$own/tree/examples/frame-used-again.toml"
+echo 'a trace' >"$own/tree/examples/watch/left-out-hart.trace"
 svsim=$own/tree/svsim
 kept=$own/tree/.svsim
 
@@ -55,57 +67,155 @@ judge() {
 }
 
 answer() { "$svsim" run "$own/file.toml" 2>"$own/err"; }
+builds() { wc -l <"$own/builds" | tr -d ' '; }
+forget() { rm -rf "$kept/answers"; }
+
+# What needs no program is answered at once, and the toolchain is not called
+says() {
+    judge "$1: its status" "$2" "$("$svsim" $3 >"$own/out" 2>"$own/err" </dev/null; echo $?)"
+    judge "$1: on standard error" "$4" "$(cat "$own/err")"
+}
+says 'no word' 2 '' 'svsim: usage: svsim COMMAND FILE'
+says 'a word that is no command' 2 "rnu $own/file.toml" 'svsim: usage: svsim COMMAND FILE'
+says 'one word' 2 run 'svsim: usage: svsim COMMAND FILE'
+says 'three words' 2 "run $own/file.toml more" 'svsim: usage: svsim COMMAND FILE'
+says 'an option' 2 "run --json $own/file.toml" 'svsim: usage: svsim COMMAND FILE'
+says 'two dashes alone' 2 "run --" 'svsim: usage: svsim COMMAND FILE'
+says 'no file' 2 "run $own/none" "svsim: cannot read $own/none"
+says 'a folder' 2 "watch $own" "svsim: cannot read $own"
+says 'a dash for a scenario' 2 'run -' 'svsim: cannot read -'
+for word in help -h --help; do
+    says "$word" 0 "$word" ''
+    judge "$word names each command" 8 "$(grep -c -E '^  (run|live|walk|stale|show|draw|check|watch) [A-Z]+ +[a-z]' "$own/out")"
+done
+for word in run live walk stale show draw check watch; do
+    says "help $word" 0 "help $word" ''
+    judge "help $word has an example that is there" 1 "$(
+        for file in $(sed -n "s/^  svsim $word \([^ ]*\).*/\1/p" "$own/out"); do [ -e "$top/$file" ] && echo "$file"; done | wc -l)"
+    cp "$own/out" "$own/help"
+    says "$word --help" 0 "$word --help" ''
+    judge "$word --help" "$(cat "$own/help")" "$(cat "$own/out")"
+done
+says 'help of no command' 2 'help rnu' 'svsim: usage: svsim COMMAND FILE'
+says 'the version' 0 --version ''
+judge 'the version names the toolchain' one "$(tail -n 1 "$own/out")"
+judge 'nothing was built so far' 0 "$(builds)"
 
 # The file
 answer >/dev/null
 judge 'the file is handed over' "$(cksum <"$own/file.toml")" "$(cksum <"$own/given")"
-timeout 60 "$svsim" run /dev/zero >/dev/null 2>&1
-judge 'a file without end' 1048577 "$(wc -c <"$own/given" | tr -d ' ')"
+judge 'the lines of the command alone' 'line of run' "$(answer)"
+timeout 60 "$svsim" run /dev/zero >/dev/null 2>"$own/err"
+judge 'a file without end' 'svsim: file too large' "$(cat "$own/err")"
 head -c 1048576 /dev/zero >"$own/long"
 "$svsim" run "$own/long" >/dev/null 2>&1
 judge 'the longest file' 1048576 "$(wc -c <"$own/given" | tr -d ' ')"
-"$svsim" run "$own/none" >/dev/null 2>&1
-judge 'no file' none "$([ -e "$own/given" ] && echo some || echo none)"
+head -c 1048577 /dev/zero >"$own/long"
+"$svsim" run "$own/long" >/dev/null 2>"$own/err"
+judge 'a file that is too long' 'svsim: file too large' "$(cat "$own/err")"
+"$svsim" watch "$own/long" >/dev/null 2>&1
+judge 'a longer trace' 1048577 "$(wc -c <"$own/given" | tr -d ' ')"
+echo 'a trace' | "$svsim" watch - >/dev/null 2>&1
+judge 'a trace from standard input' 'a trace' "$(cat "$own/given")"
+cp "$own/file.toml" "$own/-file"
+judge 'a name behind two dashes' 'line of run' "$(cd "$own" && "$svsim" run -- -file 2>/dev/null)"
 
 # A fault whose text holds line feeds: nothing of it is lost, and no line of the toolchain is printed
+forget
 printf 'svsim: key a\ninterpreter: b\nrun=ended c\nraces: d\nchecked: e: wrong\n' >"$own/trouble"
 echo 3 >"$own/status"
 answer >/dev/null
 judge 'the status of a fault' 3 $?
 judge 'a fault of five lines' "$(cksum <"$own/trouble")" "$(sed 1d "$own/err" | cksum)"
+forget
+printf 'svsim: key a\ncase=run run=ended status=0 b\n' >"$own/trouble"
+answer >/dev/null
+judge 'a fault that looks like a line of the toolchain is not taken for one' 6 $?
 : >"$own/trouble"
+printf '== show\n' >"$own/lines"
+forget
+answer >/dev/null
+judge 'a line that looks like the head of another command' 6 $?
+: >"$own/lines"
 echo 0 >"$own/status"
+forget
 answer >/dev/null
 judge 'no fault' '' "$(sed 1d "$own/err")"
 
-# What is kept: of these sources and this toolchain alone, in a folder of one's own
-judge 'before a proof' 'an unproved line' "$(answer)"
+# What was answered is kept: for all commands that suit the file, by the sum of sources, toolchain and file
+before=$(builds)
+judge 'the same call again' 'line of run' "$(answer)"
+judge 'nothing is said of a build' '' "$(cat "$own/err")"
+for word in stale show draw check; do
+    judge "$word of the same file" "line of $word" "$("$svsim" $word "$own/file.toml" 2>/dev/null)"
+done
+judge 'one build answered them' "$before" "$(builds)"
+echo 'steps = [ ]' >"$own/file.toml"
+answer >/dev/null
+judge 'another file' $((before + 1)) "$(builds)"
+echo two >"$own/version"
+answer >/dev/null
+judge 'another toolchain' $((before + 2)) "$(builds)"
+echo one >"$own/version"
+answer >/dev/null
+judge 'the first toolchain again' $((before + 2)) "$(builds)"
+"$svsim" live "$own/file.toml" >/dev/null 2>&1
+"$svsim" live "$own/file.toml" >/dev/null 2>&1
+judge 'each call of live' $((before + 4)) "$(builds)"
+echo 'a trace' | "$svsim" watch - >/dev/null 2>&1
+echo 'a trace' | "$svsim" watch - >/dev/null 2>&1
+judge 'each trace from standard input' $((before + 6)) "$(builds)"
+for number in $(seq 104); do
+    echo "steps = [] # $number" >"$own/many.toml"
+    mkdir -p "$kept/answers/$number"
+done
+"$svsim" walk "$own/many.toml" >/dev/null 2>&1
+judge 'the answers on the last hundred files are kept' 100 "$(ls "$kept/answers" | wc -l | tr -d ' ')"
+echo 11 >"$own/seconds"
+"$svsim" watch "$own/file.toml" 2>&1 >/dev/null | tail -n 1 >"$own/err"
+judge 'a build of eleven seconds' 'svsim: 10 seconds so far' "$(cat "$own/err")"
+echo 0 >"$own/seconds"
+
+# The tour
+judge 'the tour shows three examples' 'line of walk line of run line of watch' \
+    "$("$svsim" tour 2>/dev/null | grep '^line of' | tr '\n' ' ' | sed 's/ $//')"
+judge 'and their calls' 3 "$("$svsim" tour 2>/dev/null | grep -c '^\$ ./svsim ')"
+
+# A proof: of these sources and this toolchain alone, in a folder of one's own
+unproved='line of run'
 "$svsim" prove 2>/dev/null
 judge 'the folder is one'"'"'s own' 700 "$(stat -c %a "$kept")"
 judge 'after a proof' proved "$(answer)"
+judge 'answers of unproved builds are gone' none "$([ -e "$kept/answers" ] && echo some || echo none)"
+judge 'the tour after a proof' 3 "$("$svsim" tour 2>/dev/null | grep -c '^proved$')"
 echo two >"$own/version"
-judge 'another toolchain' 'an unproved line' "$(answer)"
+judge 'another toolchain' "$unproved" "$(answer)"
 echo one >"$own/version"
 judge 'the first toolchain again' proved "$(answer)"
 mkdir "$own/tree/crates/svsim/src"
 echo 'fn main() {}' >"$own/tree/crates/svsim/src/main.rt"
-judge 'another source' 'an unproved line' "$(answer)"
+judge 'another source' "$unproved" "$(answer)"
 rm -r "$own/tree/crates/svsim/src"
 chmod 770 "$kept"
-judge 'a folder that others may write to' 'an unproved line' "$(answer)"
+judge 'a folder that others may write to' "$unproved" "$(answer)"
+forget
+before=$(builds)
+answer >/dev/null
+answer >/dev/null
+judge 'nothing is kept in such a folder' $((before + 2)) "$(builds)"
 "$svsim" prove 2>/dev/null
 judge 'no proof into such a folder' 6 $?
 chmod 700 "$kept"
 mv "$kept" "$own/elsewhere"
 ln -s "$own/elsewhere" "$kept"
-judge 'a link' 'an unproved line' "$(answer)"
+judge 'a link' "$unproved" "$(answer)"
 "$svsim" prove 2>/dev/null
 judge 'no proof through a link' 6 $?
 rm "$kept"
 mv "$own/elsewhere" "$kept"
 if [ "$(id -u)" = 0 ]; then
     chown 61234 "$kept"
-    judge 'a folder of another user' 'an unproved line' "$(answer)"
+    judge 'a folder of another user' "$unproved" "$(answer)"
     chown 0 "$kept"
 fi
 judge 'the folder again' proved "$(answer)"

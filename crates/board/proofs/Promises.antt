@@ -36,7 +36,7 @@ use Rattle.board.specs.Collects.{AreAllCollected}
 use Rattle.board.specs.Promises.{AcceptedOrdersBegin, AcceptedUnmappingIsLive, HasView, HoldsOnlySince, IsDoneClean, IsGone, StaysClean, TranslateNoneHoldsNone}
 
 -- the open order is one of the orders
-find-order : (ticket : ℕ) (ks : List Order) (k : Order) → order_of_ticket ticket ks ≡ Some k → (n : ℕ) × (get_elem? ks n ≡ some k)
+pub find-order : (ticket : ℕ) (ks : List Order) (k : Order) → order_of_ticket ticket ks ≡ Some k → (n : ℕ) × (get_elem? ks n ≡ some k)
 find-order ticket [] k e = absurd (let bad : None ≡ Some k = e in cc)
 find-order ticket (x ∷ xs) k e = by (x.ticket == ticket) e (find-order ticket xs k)
   where
@@ -54,7 +54,7 @@ more-translate few many asid va within t = record {
 }
 
 -- what a live order says in a state of the board with the port's view
-gone : (port : PortState) (state : State ℕ View) → HasView port state → (n : ℕ) (k : Order) → get_elem? port.view.orders n ≡ some k → (place : Place) (page : Span) → IsLive k place page
+pub gone : (port : PortState) (state : State ℕ View) → HasView port state → (n : ℕ) (k : Order) → get_elem? port.view.orders n ≡ some k → (place : Place) (page : Span) → IsLive k place page
     → (harts : ℕ → Bool) → ((h : ℕ) → harts h ≡ true → is_in h k.collected ≡ true) → IsGone port.view.config state harts place page
 gone port state has n k at-k place page live harts got = record {
   unmapped = unmapped_shared port.view.config state has.stands port.hart port.view has.at n k at-k place page live;
@@ -65,7 +65,7 @@ gone port state has n k at-k place page live harts got = record {
 }
 
 -- and what each order says in one
-only-since : (port : PortState) (state : State ℕ View) → HasView port state → (n : ℕ) (k : Order) → get_elem? port.view.orders n ≡ some k → (h : ℕ) → is_in h k.collected ≡ true
+pub only-since : (port : PortState) (state : State ℕ View) → HasView port state → (n : ℕ) (k : Order) → get_elem? port.view.orders n ≡ some k → (h : ℕ) → is_in h k.collected ≡ true
     → HoldsOnlySince port.view.config state h port.view k
 only-since port state has n k at-k h got j w at-w is tlb within e in-tlb dropped from =
     let low = (has.stands.tables.each j w at-w).local.hart in

@@ -56,7 +56,7 @@ each-set P (y ∷ ys) (suc n) x none here others (suc m) =
 -- ---- orders
 
 -- the open order of another ticket stays
-other-order : (n : ℕ) (g : Order → Order) → ((k : Order) → (g k).ticket ≡ k.ticket) → (m : ℕ) → m ≢ n → (ks : List Order)
+pub other-order : (n : ℕ) (g : Order → Order) → ((k : Order) → (g k).ticket ≡ k.ticket) → (m : ℕ) → m ≢ n → (ks : List Order)
     → order_of_ticket m (for_ticket n g ks) ≡ order_of_ticket m ks
 other-order n g keeps m apart [] = refl
 other-order n g keeps m apart (x ∷ xs) = by (x.ticket == n) refl (other-order n g keeps m apart xs)
@@ -79,7 +79,7 @@ own-order n g keeps (x ∷ xs) = by (x.ticket == n) refl (own-order n g keeps xs
     by false is rest = ap (λ b. cond b (Some x) (order_of_ticket n (for_ticket n g xs))) is ∙ rest
 
 -- a mark on each order
-mapped-order : (g : Order → Order) → ((k : Order) → (g k).ticket ≡ k.ticket) → (m : ℕ) (ks : List Order) → order_of_ticket m (map g ks) ≡ option_map g (order_of_ticket m ks)
+pub mapped-order : (g : Order → Order) → ((k : Order) → (g k).ticket ≡ k.ticket) → (m : ℕ) (ks : List Order) → order_of_ticket m (map g ks) ≡ option_map g (order_of_ticket m ks)
 mapped-order g keeps m [] = refl
 mapped-order g keeps m (x ∷ xs) = ap (λ t. cond (t == m) (Some (g x)) (order_of_ticket m (map g xs))) (keeps x) ∙ by (x.ticket == m) (mapped-order g keeps m xs)
   where
@@ -180,7 +180,7 @@ module _ (c : Config) (ks : List Order) (T : TicketTable) where
   fresh-order : (n : ℕ) (cause : Cause) (stores : ℕ) → order_of_ticket n (fresh n cause stores ∷ ks) ≡ Some (fresh n cause stores)
   fresh-order n cause stores = ap (λ b. cond b (Some (fresh n cause stores)) (order_of_ticket n ks)) (eq-eqb n n refl)
 
-  later-order : (n : ℕ) (cause : Cause) (stores m : ℕ) → m ≢ n → order_of_ticket m (fresh n cause stores ∷ ks) ≡ order_of_ticket m ks
+  pub later-order : (n : ℕ) (cause : Cause) (stores m : ℕ) → m ≢ n → order_of_ticket m (fresh n cause stores ∷ ks) ≡ order_of_ticket m ks
   later-order n cause stores m apart = ap (λ b. cond b (Some (fresh n cause stores)) (order_of_ticket m ks)) (ne_eqb n m (λ e. apart (sym e)))
 
   new-tied : (n : ℕ) (cause : Cause) (stores : ℕ) (what : What) (named : ℕ) → asked c cause ≡ what → IsWhole T.hart (new_ticket what named) × IsOrderOf c (new_ticket what named) (fresh n cause stores)
@@ -337,7 +337,7 @@ counted-same T n x outs same was = record {
   each = λ h other. subst (λ k. HasOutstanding k (element outs h)) (sym (count-same h T.tickets n x (same h other))) (was.each h other);
 }
 
-none-open : (T : TicketTable) (n : ℕ) → lowest_free T ≡ Some n → ticket_at T n ≡ None
+pub none-open : (T : TicketTable) (n : ℕ) → lowest_free T ≡ Some n → ticket_at T n ≡ None
 none-open T n free =
     let at = position-Some is_none T.tickets n None free in
     ap if_open (slice_get-get_or T.tickets n None at.0) ∙ is-none (get_or T.tickets n None) at.1

@@ -1,6 +1,5 @@
 -- A ticket of an unmapping stays open for it through the calls of its shootdown.
-use Rattle.std.proofs.Common.{◌≡◌, ◌∙◌, sym, ap, refl, subst, ℕ, ◌==◌, Bool, true, false, cond, List, [], ◌∷◌, length, Option, Some, None, Result, Ok, Err, is_some}
-use Rattle.std.specs.Prelude.{IsTrue, slice_set}
+use Rattle.std.proofs.Common.{◌≡◌, ◌∙◌, sym, ap, refl, subst, ℕ, ◌==◌, true, cond, List, [], ◌∷◌, length, Option, Some, None, Result, Ok, Err, is_some}
 use Rattle.std.specs.Option.{option_map}
 use Rattle.std.proofs.lemmas.List.Quantifiers.{position-Some}
 use Rattle.std.specs.Prelude.{is_none}
@@ -8,10 +7,10 @@ use Rattle.spaces.proofs.Lists.{slice_get-set_same}
 use Rattle.pte.specs.Address.{Span}
 use Rattle.pte.specs.declared.address.What.{What}
 use Rattle.shoot.proofs.HartSets.{by_test}
-use Rattle.shoot.specs.HartSet.{contains, harts_in}
+use Rattle.shoot.specs.HartSet.{contains}
 use Rattle.shoot.specs.declared.tickets.Ticket.{Ticket}
 use Rattle.shoot.specs.declared.tickets.TicketFault.{TicketFault}
-use Rattle.shoot.specs.Tickets.{TicketTable, acked_by, after_acked, after_open, changed, if_open, is_open, names, new_ticket, open_answer, tells, ticket_at, what_at, with_acked, with_change, with_collected, with_posted}
+use Rattle.shoot.specs.Tickets.{TicketTable, acked_by, after_acked, after_open, changed, if_open, is_open, names, new_ticket, open_answer, tells, ticket_at, with_acked, with_change, with_collected, with_posted}
 use Rattle.spaces.specs.declared.faults.MapFault.{MapFault}
 use Rattle.spaces.specs.declared.places.Place.{Place}
 use Rattle.spaces.specs.declared.wishes.Wish.TheVariants.{Unmap}
@@ -20,14 +19,13 @@ use Rattle.history.specs.declared.refusal.Refusal.{Refusal}
 use Rattle.history.specs.Refusal.{opening_refusal, refusal_of}
 use Rattle.views.specs.declared.view.Order.{Order}
 use Rattle.views.specs.Orders.{IsLive}
-use Rattle.views.specs.OrderTurns.{armed, collected, for_ticket, looked, order_of_ticket, with_collected as collected_in}
-use Rattle.views.specs.declared.view.View.{View}
+use Rattle.views.specs.OrderTurns.{armed, collected, for_ticket, order_of_ticket}
 use Rattle.views.proofs.Lasting.{begins_live}
 use Rattle.board.specs.Ports.{PortState}
-use Rattle.board.specs.Answers.{after_ack_self, after_post, answer_or, asked_or_all, collected_by, opened, tlb_served}
-use Rattle.board.specs.Collects.{IsCollected, after_look, after_looks, awaited_word, is_awaiting, look_at}
-use Rattle.board.specs.Tables.{after_edit, after_opened, after_store, due_store, edit_answer, named_refusal, opened_if, page_request}
-use Rattle.board.specs.Promises.{CallsKeepUnmapping, IsUnmapping, UnmappingOpens}
+use Rattle.board.specs.Answers.{after_ack_self, after_post, answer_or, collected_by, opened}
+use Rattle.board.specs.Collects.{after_look, after_looks, awaited_word, is_awaiting, look_at}
+use Rattle.board.specs.Tables.{after_opened, after_store, due_store, named_refusal, opened_if, page_request}
+use Rattle.board.specs.Promises.{CallsKeepUnmapping, DoneUnmappingIsGone, IsUnmapping, UnmappingOpens}
 use Rattle.board.proofs.Ties.{opened-free, own-order, put}
 
 -- a change of the ticket that leaves whom it names
@@ -58,7 +56,7 @@ found-acked T n from there =
 
 module _ (ticket : ℕ) (place : Place) (page : Span) (named : ℕ) where
   -- a port whose order of the ticket changed, and whose ticket still names the same harts
-  kept : (port after : PortState) (g : Order → Order) → ((k : Order) → (g k).ticket ≡ k.ticket) → ((k : Order) → IsLive k place page → IsLive (g k) place page)
+  pub kept : (port after : PortState) (g : Order → Order) → ((k : Order) → (g k).ticket ≡ k.ticket) → ((k : Order) → IsLive k place page → IsLive (g k) place page)
       → after.view.orders ≡ for_ticket ticket g port.view.orders → (is_open after.tickets ticket ≡ true) × ((h : ℕ) → names after.tickets ticket h ≡ names port.tickets ticket h)
       → IsUnmapping port ticket place page named → IsUnmapping after ticket place page named
   kept port after g keeps lives orders tickets was = record {
@@ -69,11 +67,11 @@ module _ (ticket : ℕ) (place : Place) (page : Span) (named : ℕ) where
     names_are = λ h. tickets.1 h ∙ was.names_are h;
   }
 
-  kept-post : (port : PortState) (to room : ℕ) → IsUnmapping port ticket place page named → IsUnmapping (after_post port ticket to room) ticket place page named
+  pub kept-post : (port : PortState) (to room : ℕ) → IsUnmapping port ticket place page named → IsUnmapping (after_post port ticket to room) ticket place page named
   kept-post port to room was =
       kept port (after_post port ticket to room) (armed to) (λ k. refl) (λ k live. (live.0, live.1)) refl (named-on port.tickets ticket (with_posted to) (λ t. refl) was.is_open) was
 
-  kept-ack : (port : PortState) → IsUnmapping port ticket place page named → IsUnmapping (after_ack_self port ticket) ticket place page named
+  pub kept-ack : (port : PortState) → IsUnmapping port ticket place page named → IsUnmapping (after_ack_self port ticket) ticket place page named
   kept-ack port was =
       rw was.is_open (
       kept port _ (collected port.view.hart) (λ k. refl) (λ k live. (live.0, live.1)) refl (own-acked port.tickets ticket port.hart was.is_open) was)
@@ -86,7 +84,7 @@ module _ (ticket : ℕ) (place : Place) (page : Span) (named : ℕ) where
       (λ _. record { is_open = was.is_open; order = was.order; is = was.is; live = was.live; names_are = was.names_are }))
       (λ _. was)
 
-  kept-looks : (port : PortState) (words : List ℕ) → IsUnmapping port ticket place page named → IsUnmapping (after_looks port ticket words) ticket place page named
+  pub kept-looks : (port : PortState) (words : List ℕ) → IsUnmapping port ticket place page named → IsUnmapping (after_looks port ticket words) ticket place page named
   kept-looks port [] was = was
   kept-looks port (word ∷ words) was = kept-look (after_looks port ticket words) (length words) word (kept-looks port words was)
 
@@ -127,3 +125,12 @@ unmapping_opens port place page named ticket e =
       live = b.2;
       names_are = λ h. ap (λ x. tells (λ u. u.named) x h) t;
     })
+
+pub done_unmapping_is_gone : DoneUnmappingIsGone
+done_unmapping_is_gone port ticket place page named unmapping done = record {
+  now = done.now;
+  has_view = done.has_view;
+  gone = λ state has.
+      let gone = done.named state has unmapping.order unmapping.is place page unmapping.live in
+      record { unmapped = gone.unmapped; dropped = λ h in-names. gone.dropped h (unmapping.names_are h ∙ in-names) };
+}

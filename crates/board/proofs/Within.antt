@@ -1,5 +1,5 @@
 -- What a walk found is held by the view after it.
-use Rattle.std.proofs.Common.{◌≡◌, ◌∙◌, sym, ap, refl, subst, ℕ, ◌++◌, List, [], ◌∷◌, Ok}
+use Rattle.std.proofs.Common.{◌≡◌, ◌∙◌, sym, ap, refl, subst, ℕ, ◌++◌, [], ◌∷◌, Ok}
 use Rattle.std.specs.Prelude.{Contains, slice_index, map}
 use Rattle.std.proofs.lemmas.List.Elements.{Contains-push}
 use Rattle.walk.specs.declared.found_or_trap.Found.{Found}

@@ -9,3 +9,5 @@ pub mod Tables
 pub mod Ties
 pub mod Collects
 pub mod Promises
+pub mod Together
+pub mod Calls

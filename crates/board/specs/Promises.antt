@@ -9,6 +9,7 @@ use Rattle.tlb.specs.declared.store.Entry.{Entry}
 use Rattle.tlb.specs.Mappings.{IsMappedBy, Translates}
 use Rattle.tlb.specs.Service.{is_dropped}
 use Rattle.shoot.specs.HartSet.{contains, harts_in}
+use Rattle.shoot.specs.Request.{Request}
 use Rattle.shoot.specs.Tickets.{is_open, names}
 use Rattle.spaces.specs.declared.configuration.Config.{Config}
 use Rattle.spaces.specs.declared.places.Place.{Place}
@@ -27,9 +28,9 @@ use Rattle.views.specs.OrderTurns.{order_of_ticket}
 use Rattle.views.specs.Lasting.{HasBegun, IsFor}
 use Rattle.board.specs.Ports.{PortState}
 use Rattle.views.specs.OnBoard.{IsWithin}
-use Rattle.board.specs.Answers.{after_ack_self, after_flush, after_post, flush_answer}
+use Rattle.board.specs.Answers.{after_ack_self, after_flush, after_post, after_serve, flush_answer}
 use Rattle.board.specs.Collects.{IsCollected}
-use Rattle.board.specs.Tables.{after_edit, edit_answer}
+use Rattle.board.specs.Tables.{after_edit, edit_answer, page_request}
 
 -- the entries translate no address of the page in any address space of the place
 abbrev pub TranslateNone : Config → List Entry → Place → Span → Type 0
@@ -135,6 +136,33 @@ UnmappingOpens =
     (port : PortState) (place : Place) (page : Span) (named ticket : ℕ)
     → edit_answer port (Unmap place page) named ≡ Ok ticket
     → IsUnmapping (after_edit port (Unmap place page) named) ticket place page named
+
+-- There is a state of the board with the port's view, and in each the page is gone from the shared
+-- words and from each of these harts, by the bits of a byte.
+pub record IsUnmappedFrom (port : PortState) (named : ℕ) (place : Place) (page : Span) : Type 0 where
+  pub now : State ℕ View
+  pub has_view : HasView port now
+  pub gone : (state : State ℕ View) → HasView port state
+      → IsGone port.view.config state (contains (harts_in named)) place page
+
+-- so it is once such a ticket is done, of the harts that were named
+abbrev pub DoneUnmappingIsGone : Type 0
+DoneUnmappingIsGone =
+    (port : PortState) (ticket : ℕ) (place : Place) (page : Span) (named : ℕ)
+    → IsUnmapping port ticket place page named → IsDoneClean port ticket
+    → IsUnmappedFrom port named place page
+
+-- Where a home has unmapped a page, and another port of its board serves a request for what that
+-- asks, this port's own TLB translates no address of the page then.
+abbrev pub ServingDropsThePage : Type 0
+ServingDropsThePage =
+    (home other : PortState) (ticket : ℕ) (place : Place) (page : Span) (named from : ℕ)
+    (request : Request) (known : List Request)
+    → IsUnmapping home ticket place page named
+    → (now : State ℕ View) → HasView home now → (before : State ℕ View) → HasView other before
+    → other.setup ≡ home.setup → IsWithin other.tlb.entries other.view.entries
+    → request.what ≡ page_request home.setup (Unmap place page)
+    → TranslateNone home.view.config (after_serve other from request known).tlb.entries place page
 
 -- which it stays once it is posted, once the own hart has acknowledged it, and once those of others
 -- were looked for

@@ -9,6 +9,7 @@ ghost use Rattle.board.specs.Ports.{AreNew, ArePorts, name_of};
 ghost use Rattle.board.specs.Reports.{IsReport};
 ghost use Rattle.board.specs.Rows.{IsNet};
 ghost use Rattle.board.specs.Seats.{AreSeats};
+ghost use Rattle.board.specs.Together.{ShareAState};
 
 use crate::closing::{gather, pair_reports};
 use crate::opening::open_rows;
@@ -164,11 +165,12 @@ impl Board {
         Ok((board, ports))
     }
 
-    /// What became of the requests, once all ports have come back, in the order of the harts. Takes
-    /// no memory.
+    /// What became of the requests, once all ports have come back, in the order of the harts. There
+    /// is then one state of the board with the views of all. Takes no memory.
     pub fn close(self, ports: Vec<HartPort>) -> Report
         requires ports { ArePorts self (map name_of ports.items) }
         ensures report { IsReport self.harts ports.items result.pairs.items }
+        ensures together { ShareAState ports.items }
     {
         let Board {
             config,

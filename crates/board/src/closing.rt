@@ -1,7 +1,9 @@
 //! What the two ends of each ring carried, once the ports have come back.
 
-ghost use Rattle.std.specs.Prelude.{◌≡◌, ◌≤◌, ◌<◌, ◌*◌, [], ℕ, All, IfSome, IsSome, IsTrue, None, is_some, length, map, slice_set, vec_capacity};
+ghost use Rattle.std.specs.Prelude.{◌≡◌, ◌≤◌, ◌<◌, ◌*◌, [], ◌∷◌, ℕ, All, IfSome, IsSome, IsTrue, None, is_some, length, map, slice_set, vec_capacity};
+ghost use Rattle.atomic_table.specs.Seated.{TableId};
 ghost use Rattle.board.specs.Ports.{element};
+ghost use Rattle.board.specs.Together.{KnowsItself, ShareAState};
 ghost use Rattle.board.specs.Reports.{pairs_of};
 ghost use Rattle.board.specs.Rows.{AreEnds, AreLinked, IsPairOf, items_at};
 
@@ -9,6 +11,7 @@ use crate::outbox::Outbox;
 use crate::port::HartPort;
 use crate::receiver::Receiver;
 use crate::report::PairReport;
+use views::{Gathered, Words};
 
 /// Takes an end out of a row. None is left in its place.
 fn take_of<T>(row: &mut Vec<Option<T>>, column: u8) -> Option<T>
@@ -94,24 +97,54 @@ pub(crate) fn pair_reports(
     pairs
 }
 
-/// The ends of the ports, in the ports' order.
+/// Takes a port apart. Its seat is gathered with the others, and its ends are left.
+fn take_apart(
+    port: HartPort,
+    seats: &mut Gathered,
+    words: &Words,
+) -> (Vec<Option<Outbox>>, Vec<Option<Receiver>>)
+    requires same { (seats.old.table_id ≡ words.now.table_id)
+        × (port.table ≡ words.now.table_id) }
+    ensures table { seats.new.table_id ≡ seats.old.table_id }
+    ensures views { seats.new.views ≡ port.view ∷ seats.old.views }
+    ensures ends { (result.0.items ≡ port.outboxes) × (result.1.items ≡ port.inboxes) }
+    ensures own { KnowsItself port }
+{
+    let (seat, _, outs, ins) = port.into_parts();
+    seats.add(words, seat);
+    (outs, ins)
+}
+
+/// The ends of the ports, in the ports' order. The seats of the ports are gathered, so there is one
+/// state of the board with the views of all.
 pub(crate) fn gather(
-    ports: Vec<HartPort>,
+    mut ports: Vec<HartPort>,
     mut outboxes: Vec<Vec<Option<Outbox>>>,
     mut inboxes: Vec<Vec<Option<Receiver>>>,
 ) -> (Vec<Vec<Option<Outbox>>>, Vec<Vec<Option<Receiver>>>)
     requires empty { (outboxes.items ≡ []) × (inboxes.items ≡ []) }
     requires room { (length ports.items ≤ vec_capacity outboxes)
         × (length ports.items ≤ vec_capacity inboxes) }
+    requires one_table { (table : TableId) × All (λ port. port.table ≡ table) ports.items }
     ensures outboxes { map (λ row. row.items) result.0.items
         ≡ map (λ port. port.outboxes) ports.items }
     ensures inboxes { map (λ row. row.items) result.1.items
         ≡ map (λ port. port.inboxes) ports.items }
+    ensures together { ShareAState ports.items }
 {
+    let Some(last) = ports.pop() else {
+        return (outboxes, inboxes);
+    };
+    let (seat, memory, last_outs, last_ins) = last.into_parts();
+    let words = &memory.shared;
+    let mut seats = Gathered::of(seat);
     for port in ports {
-        let (outs, ins) = port.into_ends();
+        let (outs, ins) = take_apart(port, &mut seats, words);
         outboxes.push_reserved(outs);
         inboxes.push_reserved(ins);
     }
+    seats.stand(words);
+    outboxes.push_reserved(last_outs);
+    inboxes.push_reserved(last_ins);
     (outboxes, inboxes)
 }

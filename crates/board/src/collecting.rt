@@ -50,6 +50,9 @@ fn release_at(outboxes: &mut Vec<Option<Outbox>>, to: u8)
 }
 
 impl HartPort {
+    ghost use Rattle.board.specs.Calls as call;
+    ghost use Rattle.board.specs.Calls.{LeadsTo};
+
     /// The request of an open ticket that was posted to another hart, which is not collected.
     #[inline(always)]
     fn awaited(&self, ticket: u32, from: u8) -> Option<Request>
@@ -114,6 +117,21 @@ impl HartPort {
         true
     }
 
+    /// The request that is posted to the harts of a ticket, if the ticket is open.
+    pub fn request_of(&self, ticket: u32) -> Option<Request>
+        ensures request { IfSome result (λ request. request ≡ request_of self.now.tickets ticket) }
+        ensures open { IfSome result (λ _. IsTrue (is_open self.now.tickets ticket)) }
+        ensures none { IfNone result (is_open self.now.tickets ticket ≡ false) }
+    {
+        if !self.tickets.is_open(ticket) {
+            return None;
+        }
+        Some(Request {
+            ticket,
+            what: self.tickets.what(ticket),
+        })
+    }
+
     /// How far an open ticket is. It is done exactly if each hart that it names is collected in the
     /// view.
     pub(crate) fn progress(&self, ticket: u32) -> Collected
@@ -141,6 +159,7 @@ impl HartPort {
     /// the request is found, and then its mailbox has room for one more. How far the ticket is
     /// then: it is done exactly if each named hart is collected in the view. Refused with
     /// `NotOpen`, nothing changes.
+    #[tactic(auto, unfolding(crate::specs::Calls::LeadsTo))]
     pub fn collect(&mut self, ticket: u32) -> Result<Collected, Refusal>
         ensures not_open { is_open self.old.tickets ticket ≡ false
             → (result ≡ Err Refusal.NotOpen) × (self.new ≡ self.old) }
@@ -148,6 +167,7 @@ impl HartPort {
             → result ≡ Ok (progress_at self.new.tickets ticket) }
         ensures after { is_open self.old.tickets ticket ≡ true
             → IsCollected self.old ticket self.old.setup.harts self.new }
+        ensures call { LeadsTo (call.Collect ticket) self.old self.new }
         ensures done { is_open self.old.tickets ticket ≡ true
             → (result ≡ Ok collected.Done) ↔ AreAllCollected self.new ticket }
         ensures clean { result ≡ Ok collected.Done → IsDoneClean self.new ticket }

@@ -28,6 +28,8 @@ fn mapped(word: u64) -> Mapped
 
 impl HartPort {
     ghost use Rattle.pte.specs.declared.address.What.TheVariants as request;
+    ghost use Rattle.board.specs.Calls as call;
+    ghost use Rattle.board.specs.Calls.{LeadsTo};
 
     fn has(&self, place: Place) -> bool
         ensures test { result ≡ has_place self.now.setup place }
@@ -90,6 +92,7 @@ impl HartPort {
     /// Makes the one store that is due next to map a page to a PPN: a pointer to a new table, after
     /// which the same step is due again, or the leaf. Refused with `NoSpace`, else as
     /// `spaces::next_map_edit`, nothing is stored.
+    #[tactic(auto, unfolding(crate::specs::Calls::LeadsTo))]
     pub fn map_step(
         &mut self,
         place: Place,
@@ -99,6 +102,7 @@ impl HartPort {
     ) -> Result<Mapped, Refusal>
         ensures answer { result ≡ map_answer self.old (wish.Map place page ppn flags) }
         ensures after { self.new ≡ after_map self.old (wish.Map place page ppn flags) }
+        ensures call { LeadsTo (call.MapStep place page ppn flags) self.old self.new }
         ensures same { name_of self.new ≡ name_of self.old }
     {
         if !self.has(place) {
@@ -156,9 +160,11 @@ impl HartPort {
     /// Stores 0 on the leaf of a page, and opens a ticket for the page. Bit h of `named` stands for
     /// hart h. Refused with `NoHart` or `NoSpace`, else as `spaces::unmap_edit`, else with
     /// `HomeNotNamed` or `NoTicket`, nothing is stored.
+    #[tactic(auto, unfolding(crate::specs::Calls::LeadsTo))]
     pub fn unmap(&mut self, place: Place, page: Page, named: u8) -> Result<u32, Refusal>
         ensures answer { result ≡ edit_answer self.old (wish.Unmap place page) named }
         ensures after { self.new ≡ after_edit self.old (wish.Unmap place page) named }
+        ensures call { LeadsTo (call.Unmap place page named) self.old self.new }
         ensures same { name_of self.new ≡ name_of self.old }
     {
         let wish = Wish::Unmap { place, page };
@@ -168,6 +174,7 @@ impl HartPort {
     /// Stores other flags on the leaf of a page, and opens a ticket for the page. Bit h of `named`
     /// stands for hart h. Refused with `NoHart` or `NoSpace`, else as `spaces::protect_edit`, else
     /// with `HomeNotNamed` or `NoTicket`, nothing is stored.
+    #[tactic(auto, unfolding(crate::specs::Calls::LeadsTo))]
     pub fn protect(
         &mut self,
         place: Place,
@@ -177,6 +184,7 @@ impl HartPort {
     ) -> Result<u32, Refusal>
         ensures answer { result ≡ edit_answer self.old (wish.Protect place page flags) named }
         ensures after { self.new ≡ after_edit self.old (wish.Protect place page flags) named }
+        ensures call { LeadsTo (call.Protect place page flags named) self.old self.new }
         ensures same { name_of self.new ≡ name_of self.old }
     {
         let wish = Wish::Protect { place, page, flags };

@@ -23,9 +23,9 @@ mod translating;
 pub use board::Board;
 pub use inbox::Inbox;
 pub use laws::{
-    accepted_orders_begin, accepted_unmapping_is_live, counts_add_up, looks_in_order,
-    new_ports_have_done_nothing, pairs_of_three_harts, translate_none_holds_none,
-    unmapping_stays_open,
+    accepted_orders_begin, accepted_unmapping_is_live, counts_add_up, done_is_gone_from_tlbs,
+    looks_in_order, new_ports_have_done_nothing, pairs_of_three_harts, serving_drops_the_page,
+    translate_none_holds_none, unmapping_stays_open,
 };
 pub use mapped::Mapped;
 pub use outbox::Outbox;

@@ -278,6 +278,9 @@ impl HartPort {
     ghost use Rattle.shoot.specs.declared.tickets.Collected.TheVariants as collected;
     ghost use Rattle.board.specs.Collects.{AreAllCollected};
     ghost use Rattle.board.specs.Promises.{IsDoneClean};
+    ghost use Rattle.board.specs.Together.{KnowsItself};
+    ghost use Rattle.board.specs.Calls as call;
+    ghost use Rattle.board.specs.Calls.{LeadsTo};
     ghost use Rattle.board.specs.Ports.{inbox_from, IsNew, IsPort, name_of, outbox_to};
     ghost use Rattle.board.specs.Answers.{ack_self_answer, after_ack_self, after_close_to, after_finish_of, after_flush, after_no_post, after_post, after_serve, close_answer, finish_answer, flush_answer, flush_refusal, is_there, post_refusal, request_of, ticket_refusal};
 
@@ -318,16 +321,31 @@ impl HartPort {
         }
     }
 
-    /// The ends by which the hart posts and takes.
-    pub(crate) fn into_ends(self) -> (Vec<Option<Outbox>>, Vec<Option<Receiver>>)
-        ensures { (result.0.items ≡ self.outboxes) × (result.1.items ≡ self.inboxes) }
+    /// What the port is made of: its hart's seat, the words that it steps on, and the ends by which
+    /// the hart posts and takes.
+    pub(crate) fn into_parts(
+        self,
+    ) -> (
+        Seat,
+        Arc<Memory, Global>,
+        Vec<Option<Outbox>>,
+        Vec<Option<Receiver>>,
+    )
+        ensures seat { (result.0.table_id ≡ self.table) × (result.0.view ≡ self.view) }
+        ensures words { ((arc_value result.1).shared.table_id ≡ self.table)
+            × (0 < self.table.words) }
+        ensures ends { (result.2.items ≡ self.outboxes) × (result.3.items ≡ self.inboxes) }
+        ensures own { KnowsItself self }
     {
+        self.seat.held();
         let HartPort {
+            seat,
+            memory,
             outboxes,
             inboxes,
             ..
         } = self;
-        (outboxes, inboxes)
+        (seat, memory, outboxes, inboxes)
     }
 
     /// How many harts there are.
@@ -386,9 +404,11 @@ impl HartPort {
     /// Opens a ticket for a space or for everything. Bit h of `named` stands for hart h. Refused
     /// with `NoHart`, `NoSpace`, `HomeNotNamed` or `NoTicket`, the first that applies, nothing
     /// changes.
+    #[tactic(auto, unfolding(crate::specs::Calls::LeadsTo))]
     pub fn flush(&mut self, scope: Scope, named: u8) -> Result<u32, Refusal>
         ensures answer { result ≡ flush_answer self.old scope named }
         ensures after { self.new ≡ after_flush self.old scope named }
+        ensures call { LeadsTo (call.Flush scope named) self.old self.new }
         ensures same { name_of self.new ≡ name_of self.old }
     {
         let Some(harts) = self.named_harts(named) else {
@@ -416,9 +436,11 @@ impl HartPort {
 
     /// Frees the number of a ticket whose named harts are all collected. Refused with `NotOpen`,
     /// or with `NotDone` while one is not collected, nothing changes.
+    #[tactic(auto, unfolding(crate::specs::Calls::LeadsTo))]
     pub fn finish(&mut self, ticket: u32) -> Result<(), Refusal>
         ensures answer { result ≡ finish_answer self.old ticket }
         ensures after { self.new ≡ after_finish_of self.old ticket }
+        ensures call { LeadsTo (call.Finish ticket) self.old self.new }
         ensures same { name_of self.new ≡ name_of self.old }
     {
         if !self.tickets.is_open(ticket) {
@@ -433,9 +455,11 @@ impl HartPort {
     /// Serves an own ticket's request on the own TLB, and counts as collected. How far the ticket
     /// is then: it is done exactly if each named hart is collected in the view. Refused with
     /// `NotOpen`, nothing changes.
+    #[tactic(auto, unfolding(crate::specs::Calls::LeadsTo))]
     pub fn ack_self(&mut self, ticket: u32) -> Result<Collected, Refusal>
         ensures answer { result ≡ ack_self_answer self.old ticket }
         ensures after { self.new ≡ after_ack_self self.old ticket }
+        ensures call { LeadsTo (call.AckSelf ticket) self.old self.new }
         ensures done { is_open self.old.tickets ticket ≡ true
             → (result ≡ Ok collected.Done) ↔ AreAllCollected self.new ticket }
         ensures clean { result ≡ Ok collected.Done → IsDoneClean self.new ticket }
@@ -501,7 +525,7 @@ impl HartPort {
     /// `Closed` or `Full`, the first that applies, nothing changes. `Full` also where the ring
     /// between the harts has no place that this end knows to be free; then the cell is armed
     /// nonetheless.
-    #[tactic(auto, using(crate::proofs::Counts::outboxes_kept))]
+    #[tactic(auto, using(crate::proofs::Counts::outboxes_kept), unfolding(crate::specs::Calls::LeadsTo))]
     pub fn post(&mut self, ticket: u32, to: u8) -> Result<(), Refusal>
         ensures refused { (refusal : Refusal) → post_refusal self.old ticket to ≡ Some refusal
             → result ≡ Err refusal }
@@ -511,6 +535,7 @@ impl HartPort {
         ensures accepted { OnOk result (self.new
             ≡ after_post self.old ticket to (known_room (outbox_to self.new to))) }
         ensures unchanged { OnErr result (self.new ≡ after_no_post self.old ticket to) }
+        ensures call { LeadsTo (call.Post ticket to result) self.old self.new }
         ensures same { name_of self.new ≡ name_of self.old }
     {
         let request = self.request_to(ticket, to)?;
@@ -535,7 +560,7 @@ impl HartPort {
     /// Takes the oldest request of another hart that came through, drops what it names from the own
     /// TLB, and then stores the acknowledgement. Refused with `NoHart` (also for this hart), or
     /// with `Empty`, nothing changes; `Empty` only where this end knew of no request that waits.
-    #[tactic(auto, using(crate::proofs::Counts::inboxes_kept))]
+    #[tactic(auto, using(crate::proofs::Counts::inboxes_kept), unfolding(crate::specs::Calls::LeadsTo))]
     pub fn serve(&mut self, from: u8) -> Result<Request, Refusal>
         ensures no_hart { are_pair self.old.setup self.old.hart from ≡ false
             → result ≡ Err Refusal.NoHart }
@@ -547,6 +572,7 @@ impl HartPort {
         ensures oldest { IfOk result (λ request. IsPrefix (known_waiting (inbox_from self.old from))
             (request ∷ known_waiting (inbox_from self.new from))) }
         ensures unchanged { OnErr result (self.new ≡ self.old) }
+        ensures call { LeadsTo (call.Serve from result) self.old self.new }
         ensures same { name_of self.new ≡ name_of self.old }
     {
         if !self.is_other(from) {
@@ -570,10 +596,11 @@ impl HartPort {
     /// Closes the mailbox to another hart: later posts are refused, and what waits stays. Refused
     /// with `NoHart` (also for this hart), or with `Closed` if it was closed before, nothing
     /// changes.
-    #[tactic(auto, using(crate::proofs::Counts::outboxes_kept))]
+    #[tactic(auto, using(crate::proofs::Counts::outboxes_kept), unfolding(crate::specs::Calls::LeadsTo))]
     pub fn close_to(&mut self, to: u8) -> Result<(), Refusal>
         ensures answer { result ≡ close_answer self.old to }
         ensures after { self.new ≡ after_close_to self.old to }
+        ensures call { LeadsTo (call.CloseTo to) self.old self.new }
         ensures same { name_of self.new ≡ name_of self.old }
     {
         if !self.is_other(to) {

@@ -50,11 +50,16 @@ fn walk_words(
 }
 
 impl HartPort {
+    ghost use Rattle.board.specs.Calls as call;
+    ghost use Rattle.board.specs.Calls.{LeadsTo};
+
     /// Goes to another space, as a write of satp does (privileged manual 4.1.11). The TLB stays.
     /// Refused with `NoSpace` if the space does not exist.
+    #[tactic(auto, unfolding(crate::specs::Calls::LeadsTo))]
     pub fn switch(&mut self, space: u8) -> Result<(), Refusal>
         ensures answer { result ≡ switch_answer self.old space }
         ensures after { self.new ≡ after_switch self.old space }
+        ensures call { LeadsTo (call.Switch space) self.old self.new }
         ensures same { name_of self.new ≡ name_of self.old }
     {
         if usize::from(space) >= self.config.spaces.len() {
@@ -65,8 +70,10 @@ impl HartPort {
     }
 
     /// SFENCE.VMA on the own TLB; `None` is the register x0 (privileged manual 4.2.1).
+    #[tactic(auto, unfolding(crate::specs::Calls::LeadsTo))]
     pub fn fence(&mut self, rs1: Option<u64>, rs2: Option<u64>)
         ensures after { self.new ≡ after_fence self.old rs1 rs2 }
+        ensures call { LeadsTo (call.Fence rs1 rs2) self.old self.new }
         ensures same { name_of self.new ≡ name_of self.old }
     {
         self.seat.fence(rs1, rs2);
@@ -107,6 +114,7 @@ impl HartPort {
     /// walk does, by the words that its own loads find in the shared tables, and what it finds is
     /// filled in. Other harts may store between the loads.
     #[inline(always)]
+    #[tactic(auto, unfolding(crate::specs::Calls::LeadsTo))]
     pub fn translate(&mut self, va: u64, access: Access, ctx: Ctx) -> Result<u64, Trap>
         ensures not_canonical { (¬ IsCanonical self.old.setup.layout.scheme va)
             → (result ≡ Err (page_trap access Why.NotCanonical)) × (self.new ≡ self.old) }
@@ -116,6 +124,7 @@ impl HartPort {
         ensures miss { IsCanonical self.old.setup.layout.scheme va
             → first_match self.old.tlb.entries (own_asid self.old) va ≡ None
             → IsMissed self.old va access ctx result self.new }
+        ensures call { LeadsTo (call.Translate va access ctx result) self.old self.new }
         ensures same { name_of self.new ≡ name_of self.old }
     {
         let asid = self.config.spaces[usize::from(self.space)].asid;

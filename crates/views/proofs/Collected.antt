@@ -49,13 +49,13 @@ collected_holds_since c s b i v at n k at-k h small got = (b.orders.answered i v
 -- an entry that translates an address of the page for the place is of the place, and is dropped by
 -- what the unmapping asks
 module _ (c : Config) (limits : MeetsLimits MAX_LIVE_FRAMES c) (page : Span) (is-page : IsPage page) (e : Entry) (window : IsGlobalInWindow (layout_of c) e) (va : ℕ) (on : Holds page va) (in-e : Holds e.page va) where
-  over : overlaps page e.page ≡ true
+  pub over : overlaps page e.page ≡ true
   over = (overlaps-Overlap page e.page).1 (va, on, in-e)
 
   of-kernel : is_wrong_half (layout_of c) Kernel page ≡ false → IsOf c Kernel e
   of-kernel half = (window va in-e).1 (window-slot (layout_of c) (live-layout c limits) page va is-page half on)
 
-  not-global : (t : ℕ) → is_wrong_half (layout_of c) (Space t) page ≡ false → e.global ≡ false
+  pub not-global : (t : ℕ) → is_wrong_half (layout_of c) (Space t) page ≡ false → e.global ≡ false
   not-global t half = by e.global refl
     where
       by : (g : Bool) → e.global ≡ g → g ≡ false
@@ -65,7 +65,7 @@ module _ (c : Config) (limits : MeetsLimits MAX_LIVE_FRAMES c) (page : Span) (is
           let high = (window va in-e).0 q in
           absurd (omega arith)
 
-  dropped-space : (asid : ℕ) → asid < 2 ^ ASID_BITS → e.global ≡ false → e.asid ≡ asid → is_dropped (PageOf page (Some asid)) e ≡ true
+  pub dropped-space : (asid : ℕ) → asid < 2 ^ ASID_BITS → e.global ≡ false → e.asid ≡ asid → is_dropped (PageOf page (Some asid)) e ≡ true
   dropped-space asid small g a =
       let same : asid % 2 ^ ASID_BITS ≡ asid = omega arith in
       and_from (overlaps page e.page) (not e.global && (e.asid == asid % 2 ^ ASID_BITS)) over
@@ -103,7 +103,7 @@ module _ (c : Config) (s : State ℕ View) (b : Board c s) (i : ℕ) (v : View) 
       kept.unmapped r.0 r.1 r.2.space t.mapping.page t.mapping.ppn t.mapping.flags e.global r.2.has (hangs r.2.space r.2.has r.2.asid, there) (r.2.each t.mapping t.member.2)
 
 -- the ASID that the entry was found under
-asid-of : (e : Entry) (m : Mapping) (asid : ℕ) → IsMappingOf e m → e.global ≡ false → (m.asid ≡ None) ⊎ (m.asid ≡ Some asid) → e.asid ≡ asid
+pub asid-of : (e : Entry) (m : Mapping) (asid : ℕ) → IsMappingOf e m → e.global ≡ false → (m.asid ≡ None) ⊎ (m.asid ≡ Some asid) → e.asid ≡ asid
 asid-of e m asid of g (inl none) = absurd (let bad : Some e.asid ≡ None = ap (λ q. cond q None (Some e.asid)) (sym g) ∙ sym of.asid ∙ none in cc)
 asid-of e m asid of g (inr some') = let same : Some e.asid ≡ Some asid = ap (λ q. cond q None (Some e.asid)) (sym g) ∙ sym of.asid ∙ some' in cc
 

@@ -6,6 +6,7 @@ pub mod Keeps
 pub mod WalkKeeps
 pub mod EditKeeps
 pub mod Goings
+pub mod OwnLoads
 pub mod Homeward
 pub mod Deals
 pub mod OrderKeeps
@@ -23,3 +24,4 @@ pub mod Asking
 pub mod NoLeaf
 pub mod WindowGlobal
 pub mod Lasting
+pub mod Gathering

@@ -5,5 +5,7 @@ pub mod Board
 pub mod OnBoard
 pub mod Turns
 pub mod Walks
+pub mod Reads
 pub mod Edits
 pub mod Lasting
+pub mod Gathered

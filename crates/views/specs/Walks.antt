@@ -54,7 +54,8 @@ pub data Loads (v : View) (root : ℕ) : View → Type 0 where
       → w ≡ walked u root st u.reads word → HasReads w → Loads v root w
 
 -- The answer follows from the words that the walk's own loads found, which the view holds: in each
--- memory that has them this is the answer. The loads are counted, at most one a level, and what is
+-- memory that has them this is the answer. As many loads are counted as words are held, so each word
+-- is one that a load of this call found (`EachReadIsOfAnOwnLoad`), and at most one a level. What is
 -- found is filled in. A home reads back its own stores.
 pub record AnswersByLoads (l : Layout) (v : View) (root va : ℕ) (access : Access) (ctx : Ctx)
     (answer : Result Found Trap) (w : View) : Type 0 where

@@ -13,6 +13,7 @@ ghost use Rattle.views.specs.declared.view.View.{View};
 ghost use Rattle.views.specs.Rule.{Has, tables_in};
 ghost use Rattle.views.specs.Board.{AcknowledgedHoldsSince, AcknowledgedIsClean, Board, CollectedHoldsSince, CollectedIsClean, EqualWordsAskForEqualService, IsAsSaid, LeavesAreAligned, LeavesAreGlobalInWindow, MappingsAreGlobalInWindow, SeatsAreNumbered, StoresOverwriteNoPointer, UnmappedIsWhereNoLeafLeads, UnmappedOnBoardIsWhereNoLeafLeads, UnmappedStaysUnmapped, own_words, shared_words};
 ghost use Rattle.views.specs.Lasting.{CellsAreApart, CellsMeet, EachEditIsOneStore, EachSpaceAtHomeIsReadBack, EditsKeepOrders, EditsMarkNothing, KernelIsInEverySpace, MarkedByALeafOver, NothingStoredSince, OnlyEditsStore, OrdersBegin, StepsKeepOrders, StepsMarkNothing, TranslatesNoneHoldsNone, UnmappingBeginsLive, WalkAnswersAsComputed, WrongAddressChangesNothing};
+ghost use Rattle.views.specs.Reads.{EachReadIsOfAnOwnLoad, WalkRecordsWhatItsLoadFound};
 
 /// Once a hart was collected for an unmapping whose page is not mapped anew, what it filled
 /// translates no address of the page in any address space of the place.
@@ -172,6 +173,19 @@ pub fn translates_none_holds_none()
 /// nothing of what its hart edits.
 pub fn walk_answers_as_computed()
     ensures { WalkAnswersAsComputed }
+{}
+
+/// A load leaves the view of a walk with one word more exactly if it found this word where the walk
+/// wants it: no load records the word of an earlier one, or of another place.
+pub fn walk_records_what_its_load_found()
+    ensures { WalkRecordsWhatItsLoadFound }
+{}
+
+/// Each word that a walk's answer follows from is one that a load of this very call found, where it
+/// was read: what an earlier walk read counts for nothing. The steps of a call are those of its
+/// seat: each load says of reads what `IsRead` does, and each other step reads nothing.
+pub fn each_read_is_of_an_own_load()
+    ensures { EachReadIsOfAnOwnLoad }
 {}
 
 /// A walk of an address that is not canonical, which `Walked` distinguishes from the others,

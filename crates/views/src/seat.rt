@@ -5,10 +5,13 @@ ghost use Rattle.tlb.specs.Entries.{filled, first_match};
 ghost use Rattle.tlb.specs.Fence.{fenced};
 ghost use Rattle.tlb.specs.Service.{after_service};
 ghost use Rattle.atomic_table.specs.Table.{Splits};
+ghost use Rattle.spaces.specs.Layout.{layout_of};
 ghost use Rattle.views.specs.Rule.{dealer, dealt};
+ghost use Rattle.views.specs.Gathered.{in_use};
 ghost use Rattle.views.specs.Board.{Board, Steps};
 ghost use Rattle.views.specs.OnBoard.{IsOnBoard, IsWithin, new_seat};
 ghost use Rattle.views.specs.OrderTurns.{IsTold};
+ghost use Rattle.views.specs.Reads.{IsRead, ReadsNothing};
 ghost use Rattle.views.specs.declared.view.CellStep.TheVariants.{Found, Stored};
 
 use crate::rule::{Deal, Right, To, Turn, Words};
@@ -27,6 +30,7 @@ pub struct Seat {
 
 impl Model for Seat {
     ghost use Rattle.std.specs.Prelude.{◌≡◌, []};
+    ghost use Rattle.views.specs.Gathered.{in_use};
     ghost use Rattle.views.specs.OnBoard.{IsWithin, SeatState};
 
     ghost Value = { SeatState };
@@ -34,16 +38,18 @@ impl Model for Seat {
     ghost view = { λ s. record {
       table_id = s.right.table_id;
       id = s.right.id;
-      view = s.right.me.0;
+      view = s.right.me.0.view;
       tlb = s.tlb;
     } };
 
-    ghost invariant = { λ s. (s.right.me.1 ≡ []) × IsWithin s.tlb.entries s.right.me.0.entries };
+    ghost invariant = { λ s. (s.right.me ≡ (in_use s.right.me.0.view, []))
+        × IsWithin s.tlb.entries s.right.me.0.view.entries };
 }
 
-/// One load of a shared word, after which the view still holds what is in the TLB. The caller's
-/// proof picks what `T` says, and only the call's arguments can stand in the pick: `_of` has those
-/// that the load itself has no use for.
+/// One load of a shared word, after which the view still holds what is in the TLB, and says of what
+/// walks read what it said before, or that and what this load found. The caller's proof picks what
+/// `T` says, and only the call's arguments can stand in the pick: `_of` has those that the load
+/// itself has no use for.
 pub(crate) fn load<T: Turn, Of>(words: &Words, seat: &mut Seat, word: usize, _of: &Of) -> u64
     requires same { seat.old.table_id ≡ words.now.table_id }
     requires inside { word < words.now.table_id.words }
@@ -51,6 +57,7 @@ pub(crate) fn load<T: Turn, Of>(words: &Words, seat: &mut Seat, word: usize, _of
     requires within { (n : ℕ) → IsWithin seat.old.tlb.entries seat.old.view.entries
         → IsWithin seat.old.tlb.entries (T.after n).entries }
     requires told { (n : ℕ) → IsTold (Found word n) seat.old.view (T.after n) }
+    requires read { (n : ℕ) → IsRead (layout_of words.now.key) word n seat.old.view (T.after n) }
     ensures same { seat.new.table_id ≡ seat.old.table_id }
     ensures id { seat.new.id ≡ seat.old.id }
     ensures view { seat.new.view ≡ T.after result }
@@ -71,6 +78,7 @@ pub(crate) fn store<T: Turn, Of>(words: &Words, seat: &mut Seat, word: usize, ne
     requires within { IsWithin seat.old.tlb.entries seat.old.view.entries
         → IsWithin seat.old.tlb.entries (T.after new).entries }
     requires told { IsTold (Stored word new) seat.old.view (T.after new) }
+    requires reads_nothing { ReadsNothing seat.old.view (T.after new) }
     ensures same { seat.new.table_id ≡ seat.old.table_id }
     ensures id { seat.new.id ≡ seat.old.id }
     ensures view { seat.new.view ≡ T.after new }
@@ -84,8 +92,8 @@ pub(crate) fn store<T: Turn, Of>(words: &Words, seat: &mut Seat, word: usize, ne
 impl Seat {
     /// A seat with an empty TLB of a scheme.
     pub(crate) fn new(right: Right, scheme: Scheme) -> Seat
-        requires { right.me.1 ≡ [] }
-        ensures { result ≡ new_seat right.table_id right.id right.me.0 scheme }
+        requires { right.me ≡ (in_use right.me.0.view, []) }
+        ensures { result ≡ new_seat right.table_id right.id right.me.0.view scheme }
     {
         Seat {
             right,
@@ -105,6 +113,15 @@ impl Seat {
     {
         let right = words.split_seat::<Deal>(&mut self.right);
         Seat::new(right, scheme)
+    }
+
+    /// The right of the seat alone.
+    pub(crate) fn into_right(self) -> Right
+        ensures table { result.table_id ≡ self.table_id }
+        ensures seat { result.me ≡ (in_use self.view, []) }
+    {
+        let Seat { right, tlb: _ } = self;
+        right
     }
 
     /// The oldest entry of the TLB whose page has the address and that is global or of the ASID.

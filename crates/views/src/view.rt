@@ -83,3 +83,13 @@ pub struct View {
     /// first.
     pub cell_steps: LinkedList<CellStep>,
 }
+
+/// What the shared words keep of a seat.
+pub struct SeatView {
+    /// What its hart knows.
+    pub view: View,
+    /// What the harts knew whose seats were gathered with this one.
+    pub gathered: LinkedList<View>,
+    /// Whether the seat was given up, to be gathered with another. It makes no step any more.
+    pub is_given_up: bool,
+}

@@ -16,7 +16,8 @@ use std::ops::ControlFlow;
 use walk::{Found, Trap, Walk, Why};
 
 /// Where an access of a virtual address leads from a space's root, by the words that this call's
-/// own loads find: one a level, between which other harts may store. What is found is filled in.
+/// own loads find: one a level, between which other harts may store. What is found is filled in. That
+/// no word of an earlier walk counts is the law `each_read_is_of_an_own_load`.
 pub fn walk(
     words: &Words,
     seat: &mut Seat,

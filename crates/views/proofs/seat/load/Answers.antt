@@ -1,25 +1,30 @@
-use Rattle.std.proofs.Common.{ap, sym, subst, slice_index, ◌≡◌}
-use Rattle.std.specs.Prelude.{slice_set}
-use Rattle.atomic_table.specs.Table.{keeps}
+use Rattle.std.proofs.Common.{ap, sym, subst, slice_index, ◌≡◌, ◌∙◌, [], refl}
+use mathlib.Core.Option.{some}
+use Rattle.atomic_table.specs.Table.{Me, keeps}
+use Rattle.views.specs.declared.view.SeatView.{SeatView}
 use Rattle.views.specs.Board.{Steps}
+use Rattle.views.specs.Gathered.{in_use}
 use Rattle.views.specs.OnBoard.{IsWithin, SeatState}
-use Rattle.views.proofs.OnBoard.{on-board}
+use Rattle.views.proofs.Gathering.{seat-steps}
 use Rattle.views.proofs.seat.load.Goals as goal
 
 pub load-requires : goal.load-requires
 load-requires g c =
-    let steps = subst (λ (p : SeatState). Steps c.args.words.now.key p.id p.view c.args.word (λ n. n) g.T.Turn.after g.T.Turn.tells) (sym c.seat.view_is) c.requires.steps in (
+    let steps = subst (λ (p : SeatState). Steps c.args.words.now.key p.id p.view c.args.word (λ n. n) g.T.Turn.after g.T.Turn.tells) (sym c.seat.view_is) c.requires.steps in
+    let right = c.seat.inside.right in
+    let used = c.seat.invariant.0 in (
       subst (λ (p : SeatState). p.table_id ≡ c.args.words.now.table_id) (sym c.seat.view_is) c.requires.same,
       c.requires.inside,
       λ s kept homes at lt.
-          let r = steps s kept at lt in
-          let found = slice_index s.words c.args.word in
-          let w = g.T.Turn.after found in
-          (w, keeps, tt, r.0, (ap (λ l. (w, l)) c.seat.invariant.0, r.1, on-board c.args.words.now.key (slice_set s.words c.args.word found) s.homes s.views c.seat.inside.right.id c.seat.inside.right.me.0 w at r.0)),
+          let r = seat-steps c.args.words.now.key right.id (in_use right.me.0.view) c.args.word (λ n. n) g.T.Turn.after g.T.Turn.tells refl steps s kept (at ∙ ap (λ (m : Me _ SeatView). some m.0) used) lt in
+          let w = in_use (g.T.Turn.after (slice_index s.words c.args.word)) in
+          (w, keeps, tt, r.0, (ap (λ l. (w, l)) (ap (λ m. m.1) used), r.1, r.2)),
     )
 
 pub invariant_of-seat : goal.invariant_of-seat
 invariant_of-seat g c =
     let after = c.load.ensures.2.0 in
-    let within = subst (λ (p : SeatState). IsWithin p.tlb.entries p.view.entries → IsWithin p.tlb.entries (g.T.Turn.after c.load.result).entries) (sym c.seat.view_is) (c.requires.within c.load.result) in
-    (ap (λ m. m.1) after, rw (ap (λ m. m.0) after) (within c.seat.invariant.1))
+    let within = subst (λ (p : SeatState). IsWithin p.tlb.entries p.view.entries → IsWithin p.tlb.entries (g.T.Turn.after c.load.result).entries) (sym c.seat.view_is) (c.requires.within c.load.result) in (
+      after ∙ ap (λ (m : Me _ SeatView). (in_use m.0.view, [])) (sym after),
+      subst (λ (m : SeatView). IsWithin c.seat.inside.tlb.entries m.view.entries) (sym (ap (λ m. m.0) after)) (within c.seat.invariant.1),
+    )

@@ -5,6 +5,7 @@ use Rattle.spaces.specs.declared.configuration.Config.{Config}
 use Rattle.board.specs.Reports.{pairs_of}
 use Rattle.board.specs.Rows.{AreEnds}
 use Rattle.board.proofs.Returns.{all_ports, ends_back, reported}
+use Rattle.board.proofs.Together.{of_ports}
 use Rattle.board.proofs.board.Board.close.Goals as goal
 
 pub gather-outboxes-requires-clause-room : goal.gather-outboxes-requires-clause-room
@@ -14,6 +15,9 @@ gather-outboxes-requires-clause-room c =
       subst (λ n. n ≤ vec_capacity c.self.inside.outboxes) (sym all) c.self.invariant.1.1,
       subst (λ n. n ≤ vec_capacity c.self.inside.inboxes) (sym all) c.self.invariant.2.1,
     )
+
+pub gather-outboxes-requires-clause-one_table : goal.gather-outboxes-requires-clause-one_table
+gather-outboxes-requires-clause-one_table c = let are = c.requires.ports in (are.table, of_ports (λ n. n.table ≡ are.table) c.args.ports.items are.of_table)
 
 pub pair_reports-pairs-requires-clause-ends : goal.pair_reports-pairs-requires-clause-ends
 pair_reports-pairs-requires-clause-ends c =
@@ -28,6 +32,7 @@ returns c =
     let made = c.pair_reports-pairs in
     let same : c.deref.result.now.harts ≡ c.args.self.harts = ap (λ (v : Config). v.harts) c.deref.ensures ∙ ap (λ s. s.harts) c.self.view_is in
     record {
+      together = gathered.ensures.together;
       report = reported c.args.self c.args.ports.items c.requires.ports gathered.result.0.items gathered.result.1.items gathered.ensures.outboxes gathered.ensures.inboxes made.result.items
           (made.ensures.pairs ∙ ap (λ n. pairs_of n n) same) made.ensures.each;
     }
