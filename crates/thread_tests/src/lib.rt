@@ -19,6 +19,8 @@ mod cells;
 #[cfg(test)]
 mod endings;
 #[cfg(test)]
+mod first_shootdown;
+#[cfg(test)]
 mod gates;
 #[cfg(test)]
 mod live_calls;

@@ -1,0 +1,166 @@
+#!/usr/bin/env python3
+"""Compares what README and docs show with what is so: documents.py PROGRAM, which stands for ./svsim.
+
+- Commands: in a block ```console each line `$ COMMAND` is run by sh, and has to print the lines below it. A line `..` stands for any
+  lines. A block whose first line is `# NAME.toml` or `# NAME.trace` is a file of that name for the commands below it on the page.
+- Sources: a block ```rust, ```c or ```antt is a text of one source file, of which `..` stands for what is left out.
+- Links: each file and each heading that a page of the repository links to is there.
+- Sizes: README's words and lines, and the bytes of the pages for users.
+
+The last line is `N passed, M failed`.
+"""
+import os, re, subprocess, sys, tempfile
+
+TOP = os.path.dirname(os.path.dirname(os.path.abspath(__file__)))
+MOST_WORDS, MOST_LINES, MOST_BYTES = 900, 115, 75_000
+NOT_FOR_USERS = ("docs/dev/", "docs/DECISIONS.md", "docs/PERF.md")
+SECONDS = 60
+
+
+def tracked(*patterns):
+    listed = subprocess.run(["git", "-C", TOP, "ls-files", "-co", "--exclude-standard", *patterns], capture_output=True, text=True)
+    return [path for path in listed.stdout.split("\n") if os.path.isfile(os.path.join(TOP, path))]
+
+
+def text_of(path):
+    with open(os.path.join(TOP, path), encoding="utf-8") as file:
+        return file.read()
+
+
+def blocks(text):
+    """The fenced blocks of a page: the word behind the fence, the number of the first line, the lines."""
+    word, first, lines = None, 0, []
+    for number, line in enumerate(text.split("\n"), 1):
+        if not line.startswith("```"):
+            lines.append(line)
+        elif word is None:
+            word, first, lines = line[3:].strip(), number + 1, []
+        else:
+            yield word, first, lines
+            word = None
+
+
+def has_lines(shown, printed):
+    """Whether the lines printed are those shown, where `..` stands for any lines."""
+    pieces = [[]]
+    for line in shown:
+        if line == "..":
+            pieces.append([])
+        else:
+            pieces[-1].append(line)
+    first, last = pieces[0], pieces[-1]
+    if len(pieces) == 1:
+        return printed == first
+    at, end = len(first), len(printed) - len(last)
+    if printed[:at] != first or printed[end:] != last or end < at:
+        return False
+    for piece in pieces[1:-1]:
+        places = [start for start in range(at, end - len(piece) + 1) if printed[start : start + len(piece)] == piece]
+        if not places:
+            return False
+        at = places[0] + len(piece)
+    return True
+
+
+def calls(lines):
+    """The commands of a block, each with the lines that are shown of what it prints."""
+    found = []
+    for line in lines:
+        if line.startswith("$ "):
+            found.append((line[2:], []))
+        else:
+            found[-1][1].append(line)
+    return found
+
+
+def run(call, folder):
+    done = subprocess.run(["sh", "-c", call], cwd=folder, stdin=subprocess.DEVNULL, stdout=subprocess.PIPE, stderr=subprocess.STDOUT,
+                          timeout=SECONDS)
+    return done.stdout.decode("utf-8", "replace").split("\n")[:-1]
+
+
+def check_commands(page, program):
+    """Runs the commands of a page in one folder, which has the program, the examples, and the files that the page writes."""
+    with tempfile.TemporaryDirectory() as folder:
+        os.symlink(program, f"{folder}/svsim")
+        os.symlink(f"{TOP}/examples", f"{folder}/examples")
+        for word, first, lines in blocks(text_of(page)):
+            named = re.fullmatch(r"# ([\w-]+\.(toml|trace))", lines[0]) if lines else None
+            if named:
+                with open(f"{folder}/{named[1]}", "w", encoding="utf-8") as file:
+                    file.write("".join(f"{line}\n" for line in lines))
+            for call, shown in calls(lines) if word == "console" else []:
+                printed = run(call, folder)
+                yield has_lines(shown, printed), f"{page}:{first}: `{call}` prints\n" + "\n".join(printed)
+
+
+def check_sources(page, sources):
+    """A block of code is a text of one source file, but for the spaces before its lines."""
+    for word, first, lines in blocks(text_of(page)):
+        if word not in ("rust", "c", "antt"):
+            continue
+        pieces = re.split(r"(?m)^ *\.\.$", "\n".join(line.strip() if line.strip() == ".." else line for line in lines))
+        wanted = [piece.strip("\n") for piece in pieces if piece.strip()]
+        yield any(all(piece in source for piece in wanted) for source in sources), f"{page}:{first}: in no source file"
+
+
+def anchors(text):
+    """The names by which a page's headings are linked to."""
+    seen, in_block = {}, False
+    for line in text.split("\n"):
+        in_block ^= line.startswith("```")
+        heading = None if in_block else re.match(r"#+ (.*)", line)
+        if heading:
+            words = re.sub(r"\[([^\]]*)\]\([^)]*\)", r"\1", heading[1])
+            name = re.sub(r"[^\w\- ]", "", words.lower()).replace(" ", "-")
+            count = seen[name] = seen.get(name, -1) + 1
+            yield f"{name}-{count}" if count else name
+
+
+def check_links(page):
+    prose = re.sub(r"(?ms)^```.*?^```", "", text_of(page))
+    prose = re.sub(r"`[^`\n]*`", "", prose)
+    for target in re.findall(r"\]\(([^)\s]+)\)", prose):
+        if re.match(r"\w+:", target):
+            continue
+        path, _, anchor = target.partition("#")
+        file = os.path.normpath(os.path.join(os.path.dirname(page), path)) if path else page
+        there = os.path.exists(os.path.join(TOP, file))
+        yield there and (not anchor or anchor in anchors(text_of(file))), f"{page}: no {target}"
+
+
+def check_sizes(pages):
+    readme = text_of("README.md")
+    words, lines = len(readme.split()), readme.count("\n")
+    yield words <= MOST_WORDS, f"README.md: {words} words, more than {MOST_WORDS}"
+    yield lines <= MOST_LINES, f"README.md: {lines} lines, more than {MOST_LINES}"
+    size = sum(len(text_of(page).encode()) for page in pages if page.startswith("docs/") and not page.startswith(NOT_FOR_USERS))
+    yield size <= MOST_BYTES, f"docs for users: {size} bytes, more than {MOST_BYTES}"
+
+
+def checks(program):
+    pages = tracked("*.md")
+    shown = [page for page in pages if page == "README.md" or page.startswith("docs/") and not page.startswith(NOT_FOR_USERS)]
+    sources = [text_of(path) for path in tracked("crates/*.rt", "crates/*.antt", "crates/*.c", "crates/*.h")]
+    for page in shown:
+        yield from check_commands(page, program)
+        yield from check_sources(page, sources)
+    for page in pages:
+        yield from check_links(page)
+    yield from check_sizes(pages)
+
+
+def main(program):
+    passed = failed = 0
+    for is_right, told in checks(program):
+        passed, failed = passed + is_right, failed + (not is_right)
+        if not is_right:
+            print("FAILED " + told)
+    print(f"{passed} passed, {failed} failed")
+    return 1 if failed else 0
+
+
+if __name__ == "__main__":
+    if len(sys.argv) != 2 or not os.access(sys.argv[1], os.X_OK):
+        sys.exit("usage: documents.py PROGRAM")
+    sys.exit(main(os.path.abspath(sys.argv[1])))
