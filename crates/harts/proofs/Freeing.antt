@@ -6,10 +6,11 @@ use Rattle.pte.specs.Address.{Span}
 use Rattle.shoot.specs.HartSet.{contains, harts_in}
 use Rattle.history.specs.Setup.{Setup}
 use Rattle.spaces.specs.declared.places.Place.{Place}
+use Rattle.board.proofs.Unmapping.{done_unmapping_is_gone}
 use Rattle.board.specs.Ports.{ArePorts, PortName, PortState, name_of}
 use Rattle.atomic_table.specs.Table.{State}
 use Rattle.views.specs.declared.view.View.{View}
-use Rattle.board.specs.Promises.{HasView, IsDoneClean, IsGone, IsUnmapping}
+use Rattle.board.specs.Promises.{HasView, IsDoneClean, IsGone, IsUnmapping, TranslateNone}
 use Rattle.views.specs.OnBoard.{IsWithin}
 use Rattle.harts.specs.Free.{IsFree}
 
@@ -23,14 +24,12 @@ harts-of-two setup zero one are =
 -- in each state with the view of the hart that unmapped, the page is gone
 gone-each : (zero : PortState) (ticket : ℕ) (place : Place) (page : Span) → IsUnmapping zero ticket place page 3 → IsDoneClean zero ticket
     → (state : State ℕ View) → HasView zero state → IsGone zero.view.config state (contains (harts_in 3)) place page
-gone-each zero ticket place page unmapping done state has =
-    let gone = done.named state has unmapping.order unmapping.is place page unmapping.live in
-    record { unmapped = gone.unmapped; dropped = λ h named. gone.dropped h (unmapping.names_are h ∙ named) }
+gone-each zero ticket place page unmapping done = (done_unmapping_is_gone zero ticket place page 3 unmapping done).gone
 
 pub freed : (setup : Setup) (before before' zero one : PortState) (ticket : ℕ) (place : Place) (page : Span) → ArePorts setup (name_of before ∷ name_of before' ∷ [])
-    → zero.hart ≡ before.hart → one.hart ≡ before'.hart → IsWithin zero.tlb.entries zero.view.entries → IsWithin one.tlb.entries one.view.entries
-    → IsUnmapping zero ticket place page 3 → IsDoneClean zero ticket → IsFree zero one place page
-freed setup before before' zero one ticket place page are same same' within within' unmapping done =
+    → zero.hart ≡ before.hart → IsWithin zero.tlb.entries zero.view.entries → IsUnmapping zero ticket place page 3 → IsDoneClean zero ticket
+    → TranslateNone zero.view.config one.tlb.entries place page → IsFree zero one place page
+freed setup before before' zero one ticket place page are same within unmapping done other =
     let harts = harts-of-two setup (name_of before) (name_of before') are in
     record {
       now = done.now;
@@ -39,7 +38,5 @@ freed setup before before' zero one ticket place page are same same' within with
       own =
           let own-hart : zero.view.hart ≡ 0 = done.has_view.stands.tables.numbered zero.hart zero.view done.has_view.at ∙ (same ∙ harts.0) in
           (gone-each zero ticket place page unmapping done done.now done.has_view).dropped 0 refl zero.hart zero.view done.has_view.at own-hart zero.tlb.entries within;
-      other = λ state has has'.
-          let hart : one.view.hart ≡ 1 = has'.stands.tables.numbered one.hart one.view has'.at ∙ (same' ∙ harts.1) in
-          (gone-each zero ticket place page unmapping done state has).dropped 1 refl one.hart one.view has'.at hart one.tlb.entries within';
+      other = other;
     }

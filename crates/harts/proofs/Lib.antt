@@ -5,3 +5,4 @@ pub mod Tallied
 pub mod Woven
 pub mod Freeing
 pub mod Refusing
+pub mod Dropping

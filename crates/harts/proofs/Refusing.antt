@@ -31,7 +31,7 @@ use Rattle.history.specs.declared.refusal.Refusal.{Refusal}
 use Rattle.history.specs.declared.refusal.Refusal.TheVariants as refusal
 use Rattle.board.proofs.Unmapping.{accepted, opened-ticket}
 use Rattle.board.specs.Ends.{OutboxState}
-use Rattle.board.specs.Ports.{ArePorts, End, IsPort, PortName, PortState, element, end_of_outbox, inbox_from, name_of, outbox_to}
+use Rattle.board.specs.Ports.{ArePorts, End, IsPort, PortName, PortState, element, end_of_inbox, end_of_outbox, inbox_from, name_of, outbox_to}
 use Rattle.board.specs.Answers.{ack_self_answer, after_no_post, after_post, answer_or, box_refusal, is_closed_to, known_room, known_waiting, or_refusal, outbox_refusal, post_refusal, refused_if, ticket_refusal}
 use Rattle.board.specs.Promises.{IsUnmapping}
 use Rattle.board.specs.Tables.{after_opened, after_store, has_place, named_refusal, opened_if, page_request, place_refusal}
@@ -358,6 +358,16 @@ module _ (zero one : PortState) (are : ArePorts zero.setup (name_of zero ∷ nam
       ∙ (ap (λ row. is_some (element row 1)) port.outs
       ∙ (ap (λ n. is_some (element (map (λ other. cond (other == zero.hart) None (Some zero.setup.capacity)) (range_with_len 0 n)) 1)) two
       ∙ ap (λ h. is_some (element (map (λ other. cond (other == h) None (Some zero.setup.capacity)) (range_with_len 0 2)) 1)) numbers.0))
+
+  pub takes : is_some (inbox_from one 0) ≡ true
+  takes =
+      let port : IsPort (name_of one) = are.each 1 (name_of one) (omega arith) in
+      let ends = map (option_map end_of_inbox) one.inboxes in
+      sym (some-at (λ (e : End). e.capacity) ends 0 ∙ some-at end_of_inbox one.inboxes 0)
+      ∙ (ap (λ row. is_some (element row 0)) port.ins
+      ∙ (ap (λ (s : Setup). is_some (element (map (λ other. cond (other == one.hart) None (Some s.capacity)) (range_with_len 0 s.harts)) 0)) (are.of_setup 1 (name_of one) (omega arith))
+      ∙ (ap (λ n. is_some (element (map (λ other. cond (other == one.hart) None (Some zero.setup.capacity)) (range_with_len 0 n)) 0)) two
+      ∙ ap (λ h. is_some (element (map (λ other. cond (other == h) None (Some zero.setup.capacity)) (range_with_len 0 2)) 0)) numbers.1)))
 
   answer-is : unmap_answer zero place page ≡ first (has_place zero.setup place) (unmap_store zero place page) (lowest_free zero.tickets)
   answer-is =

@@ -1,21 +1,39 @@
 -- When the frame of an unmapped page may be used again.
-use Rattle.std.specs.Prelude.{ℕ}
+use Rattle.std.specs.Prelude.{ℕ, ◌≡◌, Ok}
 use Rattle.atomic_table.specs.Table.{State}
 use Rattle.pte.specs.Address.{Span}
 use Rattle.shoot.specs.HartSet.{contains, harts_in}
+use Rattle.shoot.specs.Request.{Request}
 use Rattle.spaces.specs.declared.places.Place.{Place}
+use Rattle.spaces.specs.declared.wishes.Wish.TheVariants.{Unmap}
 use Rattle.views.specs.declared.view.View.{View}
-use Rattle.board.specs.Ports.{PortState}
+use Rattle.board.specs.Answers.{after_serve, known_waiting}
+use Rattle.board.specs.Collects.{AreAllCollected}
+use Rattle.board.specs.Ports.{PortState, inbox_from}
 use Rattle.board.specs.Promises.{HasView, IsGone, TranslateNone}
+use Rattle.board.specs.Tables.{page_request}
+use Rattle.harts.specs.Refused.{unmap_answer}
 
 -- There is a state of the board with the view of the hart that unmapped, and in each the page is
--- gone from the shared words, and from what both harts hold. So it is of the TLB of that hart, and
--- of the TLB of the other where its port has its view in such a state too.
+-- gone from the shared words, and from what both harts hold. So it is of their own TLBs.
 pub record IsFree (zero one : PortState) (place : Place) (page : Span) : Type 0 where
   pub now : State ℕ View
   pub has_view : HasView zero now
   pub gone : (state : State ℕ View) → HasView zero state
       → IsGone zero.view.config state (contains (harts_in 3)) place page
   pub own : TranslateNone zero.view.config zero.tlb.entries place page
-  pub other : (state : State ℕ View) → HasView zero state → HasView one state
-      → TranslateNone zero.view.config one.tlb.entries place page
+  pub other : TranslateNone zero.view.config one.tlb.entries place page
+
+-- what hart 0 asks hart 1 to drop, under a ticket
+abbrev pub request_for : PortState → Place → Span → ℕ → Request
+request_for zero place page ticket =
+    record { ticket = ticket; what = page_request zero.setup (Unmap place page) }
+
+-- Hart 0 unmapped the page under this ticket; what hart 1 served is this ticket's request; and each
+-- named hart is collected for it.
+pub record HaveDropped (zero one after other : PortState) (place : Place) (page : Span) : Type 0 where
+  pub ticket : ℕ
+  pub unmapped : unmap_answer zero place page ≡ Ok ticket
+  pub served : other ≡ after_serve one 0 (request_for zero place page ticket)
+      (known_waiting (inbox_from other 0))
+  pub collected : AreAllCollected after ticket

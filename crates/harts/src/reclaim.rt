@@ -1,22 +1,31 @@
 //! A worked caller of ports: one hart unmaps a page and has it dropped, and then its frame is free.
-ghost use Rattle.std.specs.Prelude.{◌≡◌, ◌∷◌, [], Ok, IfErr, true};
+ghost use Rattle.std.specs.Prelude.{◌≡◌, ◌↔◌, ◌∷◌, [], Ok, Some, IfErr, true};
 ghost use Rattle.board.specs.Ports.{ArePorts, name_of, outbox_to};
 ghost use Rattle.board.specs.Answers.{known_room};
-ghost use Rattle.harts.specs.Free.{IsFree};
+ghost use Rattle.shoot.specs.declared.tickets.Collected.TheVariants as collected;
+ghost use Rattle.harts.specs.Free.{HaveDropped, IsFree};
 ghost use Rattle.harts.specs.Refused.{IsRefused, left_by};
 
-use board::{HartPort, unmapping_stays_open};
+use board::{HartPort, serving_drops_the_page, unmapping_stays_open};
 use history::Refusal;
 use pte::Page;
-use shoot::Collected;
+use shoot::{Collected, Request};
 use spaces::Place;
 
 /// Hart 0 and hart 1, by their bits.
 const BOTH: u8 = 0b11;
 
+/// Whether the request that was served is the one that was asked, and its ticket is done.
+fn have_dropped(asked: Option<Request>, served: Request, progress: Collected) -> bool
+    ensures { (result ≡ true) ↔ (asked ≡ Some served) × (progress ≡ collected.Done) }
+{
+    asked == Some(served) && progress == Collected::Done
+}
+
 /// Hart 0 unmaps a page that both harts may hold, and each drops it. `true` once the page is gone
-/// from both: if no other page leads to its frame, the frame may be used again. `false` if hart 1
-/// served an older request; hart 0 has to collect once more then.
+/// from both, and from their own TLBs: if no other page leads to its frame, the frame may be used
+/// again. `false` if hart 1 served an older request, or hart 0 did not find its acknowledgement;
+/// hart 1 has to serve once more then, or hart 0 to collect.
 ///
 /// Refused with `NoSpace`, `NotHome`, `WrongHalf`, `NotMapped` or `WrongSize`, or `NoTicket`, the
 /// first that applies, nothing changes. Refused with `Closed`, else with `Full`, hart 0 has unmapped
@@ -31,18 +40,22 @@ pub fn unmap_and_drop(
 ) -> Result<bool, Refusal>
     requires ports { ArePorts zero.old.setup (name_of zero.old ∷ name_of one.old ∷ []) }
     ensures free { result ≡ Ok true → IsFree zero.new one.new place page }
+    ensures answers { (result ≡ Ok true)
+        ↔ HaveDropped zero.old one.old zero.new one.new place page }
     ensures refused { IsRefused zero.old one.old place page result }
     ensures stays { IfErr result (λ refusal. (one.new ≡ one.old)
         × (zero.new ≡ left_by zero.old place page (known_room (outbox_to zero.new 1)) refusal)) }
 {
     zero.held();
+    one.held();
     unmapping_stays_open();
+    serving_drops_the_page();
     let ticket = zero.unmap(place, page, BOTH)?;
+    let asked = zero.request_of(ticket);
     zero.post(ticket, 1)?;
-    one.serve(0)?;
+    let served = one.serve(0)?;
     zero.ack_self(ticket)?;
     let collected = zero.collect(ticket)?;
     zero.held();
-    one.held();
-    Ok(matches!(collected, Collected::Done))
+    Ok(have_dropped(asked, served, collected))
 }
