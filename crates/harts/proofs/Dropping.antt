@@ -1,6 +1,6 @@
 -- When hart 0 is answered that both harts dropped the page.
 use Rattle.std.proofs.Common.{◌≡◌, ◌∙◌, sym, ap, refl, ℕ, Bool, true, false, List, [], ◌∷◌, ◌++◌, length, length-append, get_or, Option, Some, None, Result, Ok, Err, is_some, arith}
-use Rattle.std.specs.Prelude.{◌↔◌, IfNone, IfSome, is_ok, slice_set, unwrap_or}
+use Rattle.std.specs.Prelude.{◌↔◌, IfNone, IfOk, IfSome, is_ok, slice_set, unwrap_or}
 use Rattle.std.proofs.lemmas.Bool.{false≢true, true≢false}
 use Rattle.pte.specs.Address.{Span}
 use Rattle.shoot.specs.Request.{Request}
@@ -76,3 +76,7 @@ ok_is {X} {a} {b} e = ap (λ r. ok_or r a) e
     ok_or : Result X Refusal → X → X
     ok_or (Ok x) d = x
     ok_or (Err r) d = d
+
+pub no_ok : {X : Type 0} (R : Result X Refusal) (r : Refusal) (P : X → Type 0) → R ≡ Err r → IfOk R P
+no_ok (Ok x) r P e = absurd (true≢false (ap is_ok e))
+no_ok (Err s) r P e = tt

@@ -1,9 +1,9 @@
 //! A worked caller of ports: one hart unmaps a page and has it dropped, and then its frame is free.
-ghost use Rattle.std.specs.Prelude.{◌≡◌, ◌↔◌, ◌∷◌, [], Ok, Some, IfErr, true};
+ghost use Rattle.std.specs.Prelude.{◌≡◌, ◌↔◌, ◌∷◌, [], Ok, Some, IfOk, IfErr, true};
 ghost use Rattle.board.specs.Ports.{ArePorts, name_of, outbox_to};
 ghost use Rattle.board.specs.Answers.{known_room};
 ghost use Rattle.shoot.specs.declared.tickets.Collected.TheVariants as collected;
-ghost use Rattle.harts.specs.Free.{HaveDropped, IsFree};
+ghost use Rattle.harts.specs.Free.{HaveDropped, HaveMet, IsFree};
 ghost use Rattle.harts.specs.Refused.{IsRefused, left_by};
 
 use board::{HartPort, serving_drops_the_page, unmapping_stays_open};
@@ -42,6 +42,7 @@ pub fn unmap_and_drop(
     ensures free { result ≡ Ok true → IsFree zero.new one.new place page }
     ensures answers { (result ≡ Ok true)
         ↔ HaveDropped zero.old one.old zero.new one.new place page }
+    ensures met { IfOk result (λ _. HaveMet zero.old one.old zero.new one.new place page) }
     ensures refused { IsRefused zero.old one.old place page result }
     ensures stays { IfErr result (λ refusal. (one.new ≡ one.old)
         × (zero.new ≡ left_by zero.old place page (known_room (outbox_to zero.new 1)) refusal)) }

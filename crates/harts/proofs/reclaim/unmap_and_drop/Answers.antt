@@ -4,14 +4,14 @@ use Rattle.std.proofs.lemmas.Bool.{true≢false}
 use Rattle.std.proofs.lemmas.Result.{err_from_is_err_and}
 use Rattle.shoot.specs.Tickets.{is_open}
 use Rattle.spaces.specs.declared.wishes.Wish.TheVariants.{Unmap}
-use Rattle.board.specs.Answers.{after_serve, known_room, known_waiting}
-use Rattle.board.specs.Collects.{AreAllCollected}
-use Rattle.board.specs.Ports.{inbox_from, name_of, outbox_to}
+use Rattle.board.specs.Answers.{after_ack_self, after_post, after_serve, known_room, known_waiting}
+use Rattle.board.specs.Collects.{AreAllCollected, IsCollected}
+use Rattle.board.specs.Ports.{PortName, inbox_from, name_of, outbox_to}
 use Rattle.board.specs.Promises.{IsUnmapping, TranslateNone}
 use Rattle.board.specs.Tables.{page_request}
-use Rattle.harts.specs.Free.{request_for}
+use Rattle.harts.specs.Free.{after_asking, request_for}
 use Rattle.harts.specs.Refused.{left_by}
-use Rattle.harts.proofs.Dropping.{IfSome-same, asked_for, not_dropped, ok_is, request_is, serves_one, serves_same, some_is}
+use Rattle.harts.proofs.Dropping.{IfSome-same, asked_for, no_ok, not_dropped, ok_is, request_is, serves_one, serves_same, some_is}
 use Rattle.harts.proofs.Freeing.{freed}
 use Rattle.harts.proofs.Refusing.{at_end, at_post, at_serve, at_unmap, left_at_post, left_at_serve, left_at_unmap, is_true_in, no_ack, no_collect, one_refusal, ports_left, serves, takes}
 use Rattle.harts.proofs.reclaim.unmap_and_drop.Goals as goal
@@ -31,6 +31,7 @@ returns-in_err-ticket c =
     record {
       free = λ done. absurd (true≢false (ap is_ok (sym done ∙ gives)));
       answers = not_dropped zero one c.unmap.new.self one place page R c.in_err-ticket.field-0.0 gives (λ h. true≢false (ap is_ok (sym h.unmapped ∙ answer)));
+      met = no_ok R c.in_err-ticket.field-0.0 _ gives;
       refused = at_unmap zero one c.requires.ports own place page R c.in_err-ticket.field-0.0 answer gives;
       stays = ports_left R one one c.unmap.new.self (left_by zero place page room) refl (λ r _. left_at_unmap zero one c.requires.ports own place page c.unmap.new.self room c.in_err-ticket.field-0.0 answer c.in_err-ticket.ensures.after r);
     }
@@ -56,6 +57,7 @@ returns-in_err-post c =
     record {
       free = λ done. absurd (true≢false (ap is_ok (sym done ∙ gives)));
       answers = not_dropped zero one c.post.new.self one place page R c.in_err-post.field-0.0 gives (λ h. serves_one one (takes zero one c.requires.ports own place page) _ _ h.served);
+      met = no_ok R c.in_err-post.field-0.0 _ gives;
       refused = at_post zero one c.requires.ports own place page ticket unmapped answer made same stands c.post.result c.post.ensures.refused R c.post.ensures.full
           c.in_err-post.field-0.0 c.in_err-post.was gives;
       stays = ports_left R one one c.post.new.self (left_by zero place page room) refl (
@@ -86,6 +88,7 @@ returns-in_err-served c =
       free = λ done. absurd (true≢false (ap is_ok (sym done ∙ gives)));
       answers = not_dropped zero one c.post.new.self c.serve.new.self place page R c.in_err-served.field-0.0 gives
           (λ h. serves_one one (takes zero one c.requires.ports own place page) _ _ (sym c.in_err-served.ensures.unchanged ∙ h.served));
+      met = no_ok R c.in_err-served.field-0.0 _ gives;
       refused = at_serve zero one c.requires.ports own place page ticket unmapped answer made same stands c.post.result c.post.ensures.refused R c.in_ok-post.was c.serve.result c.serve.ensures.empty
           c.in_err-served.field-0.0 c.in_err-served.was gives;
       stays = ports_left R c.serve.new.self one c.post.new.self (left_by zero place page room) c.in_err-served.ensures.unchanged (
@@ -154,6 +157,10 @@ returns c =
     let taken = c.in_ok-served.ensures.taken in
     let done = c.in_ok-collected.ensures.done acked.is_open in
     let dropped = c.have_dropped.ensures in
+    let room = known_room (outbox_to c.post.new.self 1) in
+    let asking = after_asking zero place page ticket room in
+    let asked_and_acked : c.ack_self.new.self ≡ asking = c.in_ok-ack_self.ensures.after ∙ ap (λ p. after_ack_self p ticket) (c.in_ok-post.ensures.accepted ∙ ap (λ p. after_post p ticket 1 room) made) in
+    let whole : name_of asking ≡ name_of zero = ap name_of (sym asked_and_acked) ∙ (c.in_ok-ack_self.ensures.same ∙ (c.in_ok-post.ensures.same ∙ same)) in
     let one_setup : one.setup ≡ after.setup = c.requires.ports.of_setup 1 (name_of one) (omega arith) ∙ sym (ap (λ n. n.setup) names) in
     record {
       free = λ e.
@@ -179,6 +186,15 @@ returns c =
             serves_same one (takes zero one c.requires.ports own place page) c.in_ok-served.served (request_for zero place page h.ticket) _ _ (sym taken ∙ h.served) ∙ ap (request_for zero place page) is in
             ap (λ b. Ok b) (dropped.1 (asked ∙ ap (λ x. Some x) (sym r), ok_is (done.1 (subst (AreAllCollected after) is h.collected))))),
       );
+      met = record {
+        ticket = ticket;
+        unmapped = answer;
+        room = room;
+        looked = subst (λ (n : PortName). IsCollected asking ticket n.setup.harts after) whole (subst (λ p. IsCollected p ticket p.setup.harts after) asked_and_acked (c.in_ok-collected.ensures.after acked.is_open));
+        request = c.in_ok-served.served;
+        served = taken;
+        oldest = c.in_ok-served.ensures.oldest;
+      };
       refused = at_end zero one c.requires.ports own place page ticket unmapped answer made same stands c.post.result c.post.ensures.refused _ c.in_ok-post.was c.have_dropped.result refl;
       stays = tt;
     }
