@@ -1,5 +1,5 @@
 -- From a ticket that is done to a frame that is free.
-use Rattle.std.proofs.Common.{◌≡◌, ◌∙◌, sym, ap, refl, ℕ, [], ◌∷◌, length, get_or}
+use Rattle.std.proofs.Common.{◌≡◌, ◌∙◌, sym, ap, refl, ℕ, [], ◌∷◌, length, get_or, arith}
 use Rattle.std.specs.List.{range_with_len}
 use Rattle.std.proofs.lemmas.List.FromFn.{length-range_with_len}
 use Rattle.pte.specs.Address.{Span}
@@ -10,7 +10,7 @@ use Rattle.board.specs.Ports.{ArePorts, PortName, PortState, name_of}
 use Rattle.atomic_table.specs.Table.{State}
 use Rattle.views.specs.declared.view.View.{View}
 use Rattle.board.specs.Promises.{HasView, IsDoneClean, IsGone, IsUnmapping}
-use Rattle.views.specs.OnBoard.{IsWithin}
+use Rattle.board.specs.Together.{ShareAState}
 use Rattle.harts.specs.Free.{IsFree}
 
 -- of two ports of one board the first is that of hart 0, and the second that of hart 1
@@ -28,18 +28,21 @@ gone-each zero ticket place page unmapping done state has =
     record { unmapped = gone.unmapped; dropped = λ h named. gone.dropped h (unmapping.names_are h ∙ named) }
 
 pub freed : (setup : Setup) (before before' zero one : PortState) (ticket : ℕ) (place : Place) (page : Span) → ArePorts setup (name_of before ∷ name_of before' ∷ [])
-    → zero.hart ≡ before.hart → one.hart ≡ before'.hart → IsWithin zero.tlb.entries zero.view.entries → IsWithin one.tlb.entries one.view.entries
-    → IsUnmapping zero ticket place page 3 → IsDoneClean zero ticket → IsFree zero one place page
-freed setup before before' zero one ticket place page are same same' within within' unmapping done =
+    → zero.hart ≡ before.hart → one.hart ≡ before'.hart → ShareAState (zero ∷ one ∷ []) → IsUnmapping zero ticket place page 3 → IsDoneClean zero ticket → IsFree zero one place page
+freed setup before before' zero one ticket place page are same same' share unmapping done =
     let harts = harts-of-two setup (name_of before) (name_of before') are in
+    let has : HasView zero share.state = share.have_views 0 zero (omega arith) in
+    let has' : HasView one share.state = share.have_views 1 zero (omega arith) in
+    let gone = gone-each zero ticket place page unmapping done in
     record {
-      now = done.now;
-      has_view = done.has_view;
-      gone = gone-each zero ticket place page unmapping done;
+      now = share.state;
+      has_view = has;
+      has_other = has';
+      gone = gone;
       own =
-          let own-hart : zero.view.hart ≡ 0 = done.has_view.stands.tables.numbered zero.hart zero.view done.has_view.at ∙ (same ∙ harts.0) in
-          (gone-each zero ticket place page unmapping done done.now done.has_view).dropped 0 refl zero.hart zero.view done.has_view.at own-hart zero.tlb.entries within;
-      other = λ state has has'.
+          let hart : zero.view.hart ≡ 0 = has.stands.tables.numbered zero.hart zero.view has.at ∙ (same ∙ harts.0) in
+          (gone share.state has).dropped 0 refl zero.hart zero.view has.at hart zero.tlb.entries (share.within 0 zero (omega arith));
+      other =
           let hart : one.view.hart ≡ 1 = has'.stands.tables.numbered one.hart one.view has'.at ∙ (same' ∙ harts.1) in
-          (gone-each zero ticket place page unmapping done state has).dropped 1 refl one.hart one.view has'.at hart one.tlb.entries within';
+          (gone share.state has).dropped 1 refl one.hart one.view has'.at hart one.tlb.entries (share.within 1 zero (omega arith));
     }

@@ -8,14 +8,14 @@ use Rattle.views.specs.declared.view.View.{View}
 use Rattle.board.specs.Ports.{PortState}
 use Rattle.board.specs.Promises.{HasView, IsGone, TranslateNone}
 
--- There is a state of the board with the view of the hart that unmapped, and in each the page is
--- gone from the shared words, and from what both harts hold. So it is of the TLB of that hart, and
--- of the TLB of the other where its port has its view in such a state too.
+-- There is one state of the board with the views of both harts. In each with the view of the hart
+-- that unmapped, the page is gone from the shared words, and from what both harts hold. So it is of
+-- the TLBs of both.
 pub record IsFree (zero one : PortState) (place : Place) (page : Span) : Type 0 where
   pub now : State ℕ View
   pub has_view : HasView zero now
+  pub has_other : HasView one now
   pub gone : (state : State ℕ View) → HasView zero state
       → IsGone zero.view.config state (contains (harts_in 3)) place page
   pub own : TranslateNone zero.view.config zero.tlb.entries place page
-  pub other : (state : State ℕ View) → HasView zero state → HasView one state
-      → TranslateNone zero.view.config one.tlb.entries place page
+  pub other : TranslateNone zero.view.config one.tlb.entries place page

@@ -42,7 +42,6 @@ pub fn unmap_and_drop(
     one.serve(0)?;
     zero.ack_self(ticket)?;
     let collected = zero.collect(ticket)?;
-    zero.held();
-    one.held();
+    zero.meet(one);
     Ok(matches!(collected, Collected::Done))
 }

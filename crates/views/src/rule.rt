@@ -96,7 +96,7 @@ impl Play<u8, SeatView> for Together {
 pub(crate) struct Lend;
 
 impl Split<SeatView> for Lend {
-    ghost use Rattle.std.specs.Prelude.{Some, true};
+    ghost use Rattle.std.specs.Prelude.{Some};
     ghost use Rattle.views.specs.Gathered.{lent, notice};
 
     ghost left = { λ seat. lent seat.view };

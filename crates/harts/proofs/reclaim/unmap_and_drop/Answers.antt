@@ -1,10 +1,10 @@
-use Rattle.std.proofs.Common.{◌≡◌, ◌∙◌, ap, sym, subst, Ok, Err, refl, true, false}
+use Rattle.std.proofs.Common.{◌≡◌, ◌∙◌, ap, sym, subst, Ok, Err, refl, true, false, arith}
 use Rattle.std.specs.Prelude.{is_ok}
 use Rattle.std.proofs.lemmas.Bool.{true≢false}
 use Rattle.std.proofs.lemmas.Result.{err_from_is_err_and}
 use Rattle.board.specs.Answers.{known_room}
-use Rattle.board.specs.Ports.{outbox_to}
-use Rattle.board.specs.Promises.{IsUnmapping}
+use Rattle.board.specs.Ports.{name_of, outbox_to}
+use Rattle.board.specs.Promises.{IsDoneClean, IsUnmapping}
 use Rattle.harts.specs.Refused.{left_by}
 use Rattle.harts.proofs.Freeing.{freed}
 use Rattle.harts.proofs.Refusing.{at_end, at_post, at_serve, at_unmap, left_at_post, left_at_serve, left_at_unmap, is_true_in, no_ack, no_collect, one_refusal, ports_left, serves}
@@ -119,6 +119,19 @@ returns-in_err-collected c =
     let acked = subst (λ p. IsUnmapping p ticket place page 3) (sym c.in_ok-ack_self.ensures.after) (law.stays c.post.new.self c.post.new.self ticket 0 0 place page 3 posted).1 in
     absurd (no_collect c.ack_self.new.self ticket place page acked c.in_err-collected.field-0.0 c.collect.new.self.tickets c.in_err-collected.ensures.answer)
 
+pub meet-requires : goal.meet-requires
+meet-requires c =
+    let are = c.requires.ports in
+    let zero = name_of c.args.zero.now in
+    let one = name_of c.args.one.now in
+    let first : zero.table ≡ are.table = are.of_table 0 zero (omega arith) in
+    let second : one.table ≡ are.table = are.of_table 1 zero (omega arith) in
+    record {
+      same =
+          ap (λ n. n.table) (c.in_ok-collected.ensures.same ∙ (c.in_ok-ack_self.ensures.same ∙ (c.in_ok-post.ensures.same ∙ c.in_ok-ticket.ensures.same)))
+          ∙ (first ∙ (sym second ∙ ap (λ n. n.table) (sym c.in_ok-serve.ensures.same)));
+    }
+
 pub returns-in-Done : goal.returns-in-Done
 returns-in-Done c =
     let zero = c.args.zero.now in
@@ -136,12 +149,15 @@ returns-in-Done c =
     let posted = subst (λ p. IsUnmapping p ticket place page 3) (sym c.in_ok-post.ensures.accepted) (law.stays unmapped unmapped ticket 1 _ place page 3 stands).0 in
     let acked = subst (λ p. IsUnmapping p ticket place page 3) (sym c.in_ok-ack_self.ensures.after) (law.stays c.post.new.self c.post.new.self ticket 0 0 place page 3 posted).1 in
     let collected = (law.stays c.ack_self.new.self c.collect.new.self ticket 0 0 place page 3 acked).2 (c.in_ok-collected.ensures.after acked.is_open) in
+    let met = c.meet.ensures.same in
     record {
       free = λ _.
-          freed zero.setup zero one c.collect.new.self c.serve.new.self ticket place page c.requires.ports
-          (ap (λ n. n.hart) (c.in_ok-collected.ensures.same ∙ (c.in_ok-ack_self.ensures.same ∙ (c.in_ok-post.ensures.same ∙ same))))
-          (ap (λ n. n.hart) c.in_ok-serve.ensures.same)
-          c.held-2.ensures.within c.held-3.ensures.within collected (c.in_ok-collected.ensures.clean (ap (λ k. Ok k) c.in-Done.is));
+          freed zero.setup zero one c.meet.new.self c.meet.new.other ticket place page c.requires.ports
+          (ap (λ p. p.hart) met.0 ∙ ap (λ n. n.hart) (c.in_ok-collected.ensures.same ∙ (c.in_ok-ack_self.ensures.same ∙ (c.in_ok-post.ensures.same ∙ same))))
+          (ap (λ p. p.hart) met.1 ∙ ap (λ n. n.hart) c.in_ok-serve.ensures.same)
+          c.meet.ensures.together
+          (subst (λ p. IsUnmapping p ticket place page 3) (sym met.0) collected)
+          (subst (λ p. IsDoneClean p ticket) (sym met.0) (c.in_ok-collected.ensures.clean (ap (λ k. Ok k) c.in-Done.is)));
       refused = at_end zero one c.requires.ports own place page ticket unmapped answer made same stands c.post.result c.post.ensures.refused (Ok true) c.in_ok-post.was true refl;
       stays = tt;
     }
