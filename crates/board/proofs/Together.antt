@@ -8,7 +8,7 @@ use lib.ListN.{get_elem?}
 use Rattle.atomic_table.specs.Table.{State}
 use Rattle.views.specs.declared.view.View.{View}
 use Rattle.views.specs.OnBoard.{IsWithin}
-use Rattle.views.specs.Gathered.{StandsIn}
+use Rattle.views.specs.Gathered.{StandTogether, StandsIn}
 use Rattle.views.specs.Orders.{is_in}
 use Rattle.board.specs.Ports.{PortName, PortState, name_of}
 use Rattle.board.specs.Promises.{HasView}
@@ -60,6 +60,16 @@ shared ports state stand own = record {
       stands = stands.stands;
       at = subst (λ n. get_elem? state.views n ≡ some port.view) own'.hart stands.at;
     }
+
+pub two_shared : (port other : PortState) → StandTogether (port.view ∷ other.view ∷ []) → KnowsItself port → KnowsItself other → ShareAState (port ∷ other ∷ [])
+two_shared port other meeting own others =
+    let P = StandsIn meeting.state in
+    let V = λ (p : PortState). P p.view in
+    let each = meeting.each in
+    shared (port ∷ other ∷ []) meeting.state
+    (All-cons V port (other ∷ []) (All-head P port.view (other.view ∷ []) each)
+    (All-cons V other [] (All-head P other.view [] (All-tail P port.view (other.view ∷ []) each)) (All-nil V)))
+    (All-cons KnowsItself port (other ∷ []) own (All-cons KnowsItself other [] others (All-nil KnowsItself)))
 
 pub none_shared : (ports : List PortState) → ports ≡ [] → ShareAState ports
 none_shared ports none = subst ShareAState (sym none) record {

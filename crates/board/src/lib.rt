@@ -10,6 +10,7 @@ mod editing;
 mod inbox;
 mod laws;
 mod mapped;
+mod meeting;
 mod opening;
 mod outbox;
 mod pair;

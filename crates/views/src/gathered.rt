@@ -15,8 +15,8 @@ pub struct Gathered {
 }
 
 impl Model for Gathered {
-    ghost use Rattle.std.specs.Prelude.{◌≡◌, [], false};
-    ghost use Rattle.views.specs.Gathered.{GatheredState, all_views};
+    ghost use Rattle.std.specs.Prelude.{◌≡◌, []};
+    ghost use Rattle.views.specs.Gathered.{GatheredState, IsInUse, all_views};
 
     ghost Value = { GatheredState };
 
@@ -25,7 +25,7 @@ impl Model for Gathered {
       views = all_views g.right.me.0;
     } };
 
-    ghost invariant = { λ g. (g.right.me.1 ≡ []) × (g.right.me.0.is_given_up ≡ false) };
+    ghost invariant = { λ g. (g.right.me.1 ≡ []) × IsInUse g.right.me.0 };
 }
 
 impl Gathered {

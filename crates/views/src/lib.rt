@@ -30,7 +30,7 @@ pub use laws::{
 };
 pub use opening::{deal, open};
 pub use rule::{Deal, Memory, Rule, To, Turn, Words};
-pub use seat::Seat;
+pub use seat::{Seat, meet};
 pub use services::{serve, serve_self};
 pub use steps::{load_first, load_next, read_home, store_edit};
 pub use view::{Cause, CellStep, Order, Read, SeatView, View};

@@ -40,19 +40,9 @@ pub trait Turn {
 
 /// Each call picks what it says.
 impl Turn for Brand {
-    ghost use Rattle.std.specs.Prelude.{[], None};
-    ghost use Rattle.pte.specs.declared.scheme.Scheme.TheVariants.{Sv39};
-    ghost use Rattle.views.specs.Rule.{starting};
+    ghost use Rattle.views.specs.Gathered.{no_view};
 
-    ghost after = { λ _. starting (record {
-      scheme = Sv39;
-      harts = 0;
-      spaces = record { items = [] };
-      window = 0;
-      base = 0;
-      spares = record { items = [] };
-      capacity = 0;
-    }) 0 0 };
+    ghost after = { λ _. no_view };
 
     ghost tells = { λ _. Unit {0} };
 }
@@ -65,7 +55,7 @@ impl<T: Turn> Play<u8, SeatView> for To<T> {
     ghost use Rattle.views.specs.OnBoard.{IsOnBoard};
 
     ghost then = { λ st m n m'. (m' ≡ (in_use (T.after n), [])) × T.tells n
-        × IsOnBoard m'.0.view };
+        × IsOnBoard m'.0.view × (m'.0.view.hart ≡ m.0.view.hart) };
 }
 
 /// How a seat is cut off the first one: the next hart's.
@@ -82,29 +72,70 @@ impl Split<SeatView> for Deal {
 
 /// How a seat is gathered with another one. Each call picks the seat that is given up.
 impl Join<SeatView> for Brand {
-    ghost use Rattle.std.specs.Prelude.{[], None};
-    ghost use Rattle.pte.specs.declared.scheme.Scheme.TheVariants.{Sv39};
-    ghost use Rattle.views.specs.Gathered.{given_up, with_gathered};
-    ghost use Rattle.views.specs.Rule.{starting};
+    ghost use Rattle.views.specs.Gathered.{given_up, no_view, with_gathered};
 
     ghost both = { λ seat other. with_gathered other.view seat };
 
-    ghost spent = { given_up (starting (record {
-      scheme = Sv39;
-      harts = 0;
-      spaces = record { items = [] };
-      window = 0;
-      base = 0;
-      spares = record { items = [] };
-      capacity = 0;
-    }) 0 0) };
+    ghost spent = { given_up no_view };
 }
 
-/// A load that shows a state of the board in which the views of all that were gathered stand.
+/// A load that shows a state of the board in which the views of all that were gathered stand, with
+/// the one that is borrowed.
 pub(crate) struct Together;
 
 impl Play<u8, SeatView> for Together {
+    ghost use Rattle.std.specs.Prelude.{◌∷◌, Option, Some};
+    ghost use Rattle.views.specs.declared.view.View.{View};
     ghost use Rattle.views.specs.Gathered.{StandTogether, all_views};
 
-    ghost then = { λ st m n m'. (m' ≡ m) × StandTogether (all_views m.0) };
+    ghost then = { λ st m n m'. (m' ≡ m) × StandTogether (all_views m.0)
+        × ((v : View) → m.0.borrowed ≡ Some v → StandTogether (m.0.view ∷ v ∷ [])) };
+}
+
+/// How a seat is lent: a notice of it is cut off.
+pub(crate) struct Lend;
+
+impl Split<SeatView> for Lend {
+    ghost use Rattle.std.specs.Prelude.{Some};
+    ghost use Rattle.views.specs.Gathered.{lent, notice};
+
+    ghost left = { λ seat. lent seat.view };
+
+    ghost right = { λ seat. notice (Some seat.view) };
+}
+
+/// How a seat borrows another one, of which it takes the notice.
+pub(crate) struct Borrow;
+
+impl Join<SeatView> for Borrow {
+    ghost use Rattle.std.specs.Prelude.{None};
+    ghost use Rattle.views.specs.Gathered.{notice};
+
+    ghost both = { λ seat other. record seat { borrowed = other.borrowed } };
+
+    ghost spent = { notice None };
+}
+
+/// How a seat that borrowed another one gives the notice of it away.
+pub(crate) struct Return;
+
+impl Split<SeatView> for Return {
+    ghost use Rattle.std.specs.Prelude.{None};
+    ghost use Rattle.views.specs.Gathered.{in_use, notice};
+
+    ghost left = { λ seat. in_use seat.view };
+
+    ghost right = { λ seat. notice seat.borrowed };
+}
+
+/// How a seat that was lent is used again, once it has the notice back.
+pub(crate) struct Resume;
+
+impl Join<SeatView> for Resume {
+    ghost use Rattle.std.specs.Prelude.{None};
+    ghost use Rattle.views.specs.Gathered.{in_use, notice};
+
+    ghost both = { λ seat other. in_use seat.view };
+
+    ghost spent = { notice None };
 }

@@ -1,20 +1,20 @@
 //! The seat of a hart: the right to step on the shared words, with the hart's TLB.
 
-ghost use Rattle.std.specs.Prelude.{◌≡◌, ◌<◌, ℕ, Contains, []};
+ghost use Rattle.std.specs.Prelude.{◌≡◌, ◌<◌, ℕ, Contains, [], ◌∷◌};
 ghost use Rattle.tlb.specs.Entries.{filled, first_match};
 ghost use Rattle.tlb.specs.Fence.{fenced};
 ghost use Rattle.tlb.specs.Service.{after_service};
 ghost use Rattle.atomic_table.specs.Table.{Splits};
 ghost use Rattle.spaces.specs.Layout.{layout_of};
 ghost use Rattle.views.specs.Rule.{dealer, dealt};
-ghost use Rattle.views.specs.Gathered.{in_use};
+ghost use Rattle.views.specs.Gathered.{StandTogether, in_use};
 ghost use Rattle.views.specs.Board.{Board, Steps};
 ghost use Rattle.views.specs.OnBoard.{IsOnBoard, IsWithin, new_seat};
 ghost use Rattle.views.specs.OrderTurns.{IsStored, IsTold};
 ghost use Rattle.views.specs.Reads.{IsRead, ReadsNothing};
 ghost use Rattle.views.specs.declared.view.CellStep.TheVariants.{Found};
 
-use crate::rule::{Deal, Right, To, Turn, Words};
+use crate::rule::{Borrow, Deal, Lend, Resume, Return, Right, To, Together, Turn, Words};
 use pte::{Scheme, VirtAddr, What};
 use std::marker::Model;
 use tlb::{Entry, Tlb};
@@ -37,7 +37,7 @@ impl Model for Seat {
 
     ghost view = { λ s. record {
       table_id = s.right.table_id;
-      id = s.right.id;
+      id = s.right.me.0.view.hart;
       view = s.right.me.0.view;
       tlb = s.tlb;
     } };
@@ -93,7 +93,8 @@ impl Seat {
     /// A seat with an empty TLB of a scheme.
     pub(crate) fn new(right: Right, scheme: Scheme) -> Seat
         requires { right.me ≡ (in_use right.me.0.view, []) }
-        ensures { result ≡ new_seat right.table_id right.id right.me.0.view scheme }
+        ensures { result ≡ new_seat right.table_id right.me.0.view.hart right.me.0.view
+            scheme }
     {
         Seat {
             right,
@@ -167,4 +168,20 @@ impl Seat {
     {
         let _ = &self.tlb;
     }
+}
+
+/// There is one state of the board in which both views stand. Nothing changes: the second seat is
+/// lent to the first for one load, of a word that is ignored.
+pub fn meet(words: &Words, seat: &mut Seat, other: &mut Seat)
+    requires same { (seat.old.table_id ≡ words.now.table_id)
+        × (other.old.table_id ≡ words.now.table_id) }
+    requires inside { 0 < words.now.table_id.words }
+    ensures same { (seat.new ≡ seat.old) × (other.new ≡ other.old) }
+    ensures together { StandTogether (seat.new.view ∷ other.new.view ∷ []) }
+{
+    let notice = words.split_seat::<Lend>(&mut other.right);
+    words.join_seat::<Borrow>(&mut seat.right, notice);
+    words.load::<Together>(&mut seat.right, 0);
+    let notice = words.split_seat::<Return>(&mut seat.right);
+    words.join_seat::<Resume>(&mut other.right, notice);
 }

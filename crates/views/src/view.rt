@@ -90,6 +90,12 @@ pub struct SeatView {
     pub view: View,
     /// What the harts knew whose seats were gathered with this one.
     pub gathered: LinkedList<View>,
+    /// What the hart knows whose seat is lent to this one.
+    pub borrowed: Option<View>,
     /// Whether the seat was given up, to be gathered with another. It makes no step any more.
     pub is_given_up: bool,
+    /// Whether the seat is lent. It makes no step until it is given back.
+    pub is_lent: bool,
+    /// Whether it is no seat of a hart, but a notice that one is lent.
+    pub is_notice: bool,
 }

@@ -1,11 +1,11 @@
-use Rattle.std.proofs.Common.{ap, sym, subst, ◌≡◌, ◌∙◌, [], refl}
+use Rattle.std.proofs.Common.{ap, sym, subst, ◌≡◌, ◌∙◌, []}
 use mathlib.Core.Option.{some}
 use Rattle.atomic_table.specs.Table.{Me, keeps}
 use Rattle.views.specs.declared.view.SeatView.{SeatView}
 use Rattle.views.specs.Board.{Steps}
 use Rattle.views.specs.Gathered.{in_use}
 use Rattle.views.specs.OnBoard.{IsWithin, SeatState}
-use Rattle.views.proofs.Gathering.{seat-steps}
+use Rattle.views.proofs.Gathering.{in_use-may, seat-steps}
 use Rattle.views.proofs.seat.store.Goals as goal
 
 pub store-requires : goal.store-requires
@@ -16,9 +16,9 @@ store-requires g c =
       subst (λ (p : SeatState). p.table_id ≡ c.args.words.now.table_id) (sym c.seat.view_is) c.requires.same,
       c.requires.inside,
       λ s kept homes at lt.
-          let r = seat-steps c.args.words.now.key right.id (in_use right.me.0.view) c.args.word (λ _. c.args.new) (λ _. g.T.Turn.after c.args.new) (λ _. g.T.Turn.tells c.args.new) refl steps s kept (at ∙ ap (λ (m : Me _ SeatView). some m.0) used) lt in
+          let r = seat-steps c.args.words.now.key right.id (in_use right.me.0.view) c.args.word (λ _. c.args.new) (λ _. g.T.Turn.after c.args.new) (λ _. g.T.Turn.tells c.args.new) (in_use-may right.me.0.view) steps s kept (at ∙ ap (λ (m : Me _ SeatView). some m.0) used) lt in
           let w = in_use (g.T.Turn.after c.args.new) in
-          (w, keeps, tt, r.0, (ap (λ l. (w, l)) (ap (λ m. m.1) used), r.1, r.2)),
+          (w, keeps, tt, r.0, (ap (λ l. (w, l)) (ap (λ m. m.1) used), r.1, r.2, r.3)),
     )
 
 pub invariant_of-seat : goal.invariant_of-seat
