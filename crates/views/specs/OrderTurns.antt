@@ -1,5 +1,5 @@
 -- What a seat knows of its orders after each kind of step.
-use Rattle.std.specs.Prelude.{ℕ, ◌≡◌, ◌+◌, ◌⊎◌, ◌||◌, ◌==◌, Bool, if◌then◌else◌, is_some, true, false, List, [], ◌∷◌, map, Option, Some, None}
+use Rattle.std.specs.Prelude.{ℕ, ◌≡◌, ◌+◌, ◌<◌, ◌⊎◌, ◌||◌, ◌==◌, Bool, if◌then◌else◌, is_some, true, false, List, [], ◌∷◌, map, Option, Some, None}
 use Rattle.pte.specs.declared.address.What.{What}
 use Rattle.pte.specs.Address.{IsPage, Span}
 use Rattle.walk.specs.Pointers.{pointed}
@@ -7,7 +7,7 @@ use Rattle.spaces.specs.declared.places.Place.{Place}
 use Rattle.spaces.specs.declared.wishes.Wish.{Wish}
 use Rattle.spaces.specs.declared.wishes.Wish.TheVariants.{Map, Unmap, Protect}
 use Rattle.spaces.specs.declared.configuration.Config.{Config}
-use Rattle.spaces.specs.Layout.{layout_of}
+use Rattle.spaces.specs.Layout.{Layout, layout_of}
 use Rattle.spaces.specs.Edits.{Store}
 use Rattle.tlb.specs.Service.{after_service}
 use Rattle.shoot.specs.Acknowledgement.{IsAskable, acknowledgement}
@@ -17,7 +17,7 @@ use Rattle.views.specs.declared.view.CellStep.{CellStep}
 use Rattle.views.specs.declared.view.CellStep.TheVariants.{Found, Stored}
 use Rattle.views.specs.declared.view.Order.{Order}
 use Rattle.views.specs.declared.view.View.{View}
-use Rattle.views.specs.Rule.{cell}
+use Rattle.views.specs.Rule.{cell, size}
 use Rattle.views.specs.Orders.{asked, dropping, is_in, lies_over}
 use Rattle.views.specs.Turns.{edited}
 
@@ -108,9 +108,16 @@ looked ticket from is_found word v =
     with_look (cell_by v v.hart ticket from) word (if is_found then with_collected ticket from v
     else v)
 
--- after a step a view says of cells what it said before, or that and this step
+-- after a load a view says of cells what it said before, or that and this step
 abbrev pub IsTold : CellStep → View → View → Type 0
 IsTold step v w = (w.cell_steps ≡ v.cell_steps) ⊎ (w.cell_steps ≡ step ∷ v.cell_steps)
+
+-- after a store a view says that it was made: one of a table word is counted, and one to a cell is
+-- the last step on cells
+abbrev pub IsStored : Layout → ℕ → ℕ → View → View → Type 0
+IsStored l at word v w =
+    ((at < size l) × (w.stores ≡ v.stores + 1) × (w.cell_steps ≡ v.cell_steps))
+    ⊎ ((w.stores ≡ v.stores) × (w.cell_steps ≡ Stored at word ∷ v.cell_steps))
 
 -- the word that the last step on a cell found or stored
 abbrev pub last_word : List CellStep → ℕ

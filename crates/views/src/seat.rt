@@ -10,9 +10,9 @@ ghost use Rattle.views.specs.Rule.{dealer, dealt};
 ghost use Rattle.views.specs.Gathered.{in_use};
 ghost use Rattle.views.specs.Board.{Board, Steps};
 ghost use Rattle.views.specs.OnBoard.{IsOnBoard, IsWithin, new_seat};
-ghost use Rattle.views.specs.OrderTurns.{IsTold};
+ghost use Rattle.views.specs.OrderTurns.{IsStored, IsTold};
 ghost use Rattle.views.specs.Reads.{IsRead, ReadsNothing};
-ghost use Rattle.views.specs.declared.view.CellStep.TheVariants.{Found, Stored};
+ghost use Rattle.views.specs.declared.view.CellStep.TheVariants.{Found};
 
 use crate::rule::{Deal, Right, To, Turn, Words};
 use pte::{Scheme, VirtAddr, What};
@@ -69,7 +69,7 @@ pub(crate) fn load<T: Turn, Of>(words: &Words, seat: &mut Seat, word: usize, _of
 }
 
 /// One store of a shared word, after which the view still holds what is in the TLB. `T` and `_of`
-/// are as those of `load`.
+/// are as those of `load`. The view says what was stored, so no store goes untold.
 pub(crate) fn store<T: Turn, Of>(words: &Words, seat: &mut Seat, word: usize, new: u64, _of: &Of)
     requires same { seat.old.table_id ≡ words.now.table_id }
     requires inside { word < words.now.table_id.words }
@@ -77,7 +77,7 @@ pub(crate) fn store<T: Turn, Of>(words: &Words, seat: &mut Seat, word: usize, ne
         (λ _. T.after new) (λ _. T.tells new) }
     requires within { IsWithin seat.old.tlb.entries seat.old.view.entries
         → IsWithin seat.old.tlb.entries (T.after new).entries }
-    requires told { IsTold (Stored word new) seat.old.view (T.after new) }
+    requires stored { IsStored (layout_of words.now.key) word new seat.old.view (T.after new) }
     requires reads_nothing { ReadsNothing seat.old.view (T.after new) }
     ensures same { seat.new.table_id ≡ seat.old.table_id }
     ensures id { seat.new.id ≡ seat.old.id }
