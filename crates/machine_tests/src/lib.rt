@@ -1,6 +1,6 @@
 //! Tests of page tables, of the machine and its parts (TLBs, mailboxes, tickets), of what shares it
-//! behind a lock, and of the watch of traces, by calls that anybody can make. The three modules whose
-//! names begin with `first` are shown whole in README.md and docs/LIBRARY.md.
+//! behind a lock, and of the watch of traces, by calls that anybody can make. docs/LIBRARY.md shows
+//! parts of the three modules whose names begin with `first`.
 #![tactic(auto)]
 
 #[cfg(test)]

@@ -1,4 +1,4 @@
-//! The machines that are opened, and the first steps of README.md.
+//! The machines that are opened, and the walk and the machine of `first_steps`.
 
 use crate::common::{USER, assert_row, spares_of};
 use crate::first_machine::two_harts;
@@ -59,8 +59,8 @@ fn machines_are_opened(rt: HostRuntime) {
     assert_row(&rt, 3, is_beyond_the_limits(rt.alloc(), &of_capacity_65()));
 }
 
-/// A root table with a page of 1 GiB at 0x8000_0000, as README.md translates over it: PPN 0x40000
-/// with V, R, U and A.
+/// A root table with a page of 1 GiB at 0x8000_0000, for `first_steps`: PPN 0x40000 with V, R, U and
+/// A.
 fn root(rt: &impl Abort, alloc: Global) -> Root {
     let mut words = Vec::new(alloc);
     for index in 0..512_u32 {
