@@ -35,6 +35,8 @@ mod scripts;
 #[cfg(test)]
 mod seats;
 #[cfg(test)]
+mod senders;
+#[cfg(test)]
 mod staleness;
 #[cfg(test)]
 mod steps;
