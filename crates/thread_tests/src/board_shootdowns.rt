@@ -235,7 +235,7 @@ fn shoot_down(port: &mut HartPort, page: Page, ppn: u64) -> bool
 }
 
 /// Hart 0 maps the page for the first time, which takes two tables.
-fn map_first(port: &mut HartPort, page: Page) -> bool
+pub(crate) fn map_first(port: &mut HartPort, page: Page) -> bool
     ensures { name_of port.new ≡ name_of port.old }
 {
     let place = Place::Space(0);

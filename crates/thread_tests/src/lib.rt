@@ -37,6 +37,8 @@ mod scripts;
 #[cfg(test)]
 mod seats;
 #[cfg(test)]
+mod senders;
+#[cfg(test)]
 mod staleness;
 #[cfg(test)]
 mod steps;

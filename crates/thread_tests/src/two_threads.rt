@@ -4,6 +4,7 @@ ghost use Rattle.board.specs.Ports.{ArePorts, name_of};
 
 use crate::board_shootdowns::{shoot_down_often, translate_and_serve};
 use crate::boards::{post_five, serve_three};
+use crate::senders::{ask_and_serve, unmap_while_full};
 use board::*;
 use spaces::Config;
 use std::alloc::Global;
@@ -18,6 +19,8 @@ pub(crate) enum Job {
     Requests,
     /// To give up a page, again and again.
     Shootdowns,
+    /// To give up a page while its mailbox is full.
+    Unmapping,
 }
 
 /// What hart 0 does. Whether it was answered as it should be.
@@ -27,6 +30,7 @@ fn ask(port: HartPort, job: Job) -> (HartPort, bool)
     match job {
         Job::Requests => post_five(port),
         Job::Shootdowns => shoot_down_often(port),
+        Job::Unmapping => unmap_while_full(port),
     }
 }
 
@@ -37,6 +41,7 @@ fn answer(port: HartPort, job: Job) -> (HartPort, bool)
     match job {
         Job::Requests => serve_three(port),
         Job::Shootdowns => translate_and_serve(port),
+        Job::Unmapping => ask_and_serve(port),
     }
 }
 
