@@ -69,9 +69,10 @@ pub fn looks_in_order()
     ensures { LooksInOrder }
 {}
 
-/// Where ports share a state, as clause `together` of `Board::close` says, and one of them was
-/// answered Done for an unmapping, no TLB of a port whose hart was named translates an address of
-/// the page, until a leaf is mapped over it.
+/// Where ports share a state, as clause `together` of `HartPort::meet` and of `Board::close` says, and
+/// one of them was answered Done for an unmapping, no TLB of a port whose hart was named translates an
+/// address of the page, until a leaf is mapped over it. And of any order the TLB of a hart that was
+/// collected holds only what was mapped since.
 pub fn done_is_gone_from_tlbs()
     ensures named { DoneIsGoneFromTlbs }
     ensures collected { CollectedIsGoneFromTlbs }

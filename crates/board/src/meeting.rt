@@ -8,7 +8,8 @@ use views::meet;
 
 impl HartPort {
     /// There is one state of the board with the views of both ports, so what one of them was
-    /// answered is a fact of the other's TLB. Nothing changes.
+    /// answered is a fact of the other's TLB. It makes five loads whose words are ignored, and
+    /// nothing changes.
     pub fn meet(&mut self, other: &mut HartPort)
         requires same { self.old.table ≡ other.old.table }
         ensures same { (self.new ≡ self.old) × (other.new ≡ other.old) }
