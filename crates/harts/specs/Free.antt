@@ -32,7 +32,7 @@ after_asking zero place page ticket room =
     after_ack_self (after_post (after_unmap zero place page) ticket 1 room) ticket
 
 -- Both ports once nothing was refused: hart 0 has asked, and looked for acknowledgements; and hart 1
--- has served the oldest request of hart 0 that it knew to wait.
+-- has served the oldest request of hart 0 that came through.
 pub record HaveMet (zero one after other : PortState) (place : Place) (page : Span) : Type 0 where
   pub ticket : ℕ
   pub unmapped : unmap_answer zero place page ≡ Ok ticket

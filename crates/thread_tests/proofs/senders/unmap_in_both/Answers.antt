@@ -1,4 +1,4 @@
-use Rattle.std.proofs.Common.{◌≡◌, ◌∙◌, sym, subst}
+use Rattle.std.proofs.Common.{◌∙◌, sym, subst}
 use Rattle.board.specs.Promises.{IsUnmapping}
 use Rattle.thread_tests.proofs.senders.unmap_in_both.Goals as goal
 
