@@ -162,6 +162,14 @@ judge 'the first toolchain again' $((before + 2)) "$(builds)"
 "$svsim" live "$own/file.toml" >/dev/null 2>&1
 "$svsim" live "$own/file.toml" >/dev/null 2>&1
 judge 'each call of live' $((before + 4)) "$(builds)"
+before=$(builds)
+echo 'root = "0x80000"' >"$own/walk.toml"
+"$svsim" check "$own/walk.toml" >/dev/null 2>&1
+judge 'check builds walk on a file of walk' 'line of walk' "$("$svsim" walk "$own/walk.toml" 2>/dev/null)"
+echo 'setup = []' >"$own/live.toml"
+judge 'check of a file of live' 'line of check' "$("$svsim" check "$own/live.toml" 2>/dev/null)"
+judge 'each was built once' $((before + 2)) "$(builds)"
+before=$((before - 2))
 echo 'a trace' | "$svsim" watch - >/dev/null 2>&1
 echo 'a trace' | "$svsim" watch - >/dev/null 2>&1
 judge 'each trace from standard input' $((before + 6)) "$(builds)"
