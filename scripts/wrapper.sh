@@ -227,5 +227,26 @@ if [ "$(id -u)" = 0 ]; then
     chown 0 "$kept"
 fi
 judge 'the folder again' proved "$(answer)"
+
+# A release: a program beside it, and neither sources nor a toolchain that it calls
+mkdir "$own/release" "$own/release/bin" "$own/release/libexec"
+cp "$top/svsim" "$own/release/svsim"
+ln -s ../svsim "$own/release/bin/svsim"
+svsim=$own/release/bin/svsim
+says 'the wrapper alone' 6 "run $own/file.toml" "svsim: neither its program nor its sources stand beside $own/release/svsim"
+printf '#!/bin/sh\necho "released $*"\nexit 1\n' >"$own/release/libexec/svsim"
+chmod +x "$own/release/libexec/svsim"
+echo 'svsim of a release' >"$own/release/BUILD"
+printf '#!/bin/sh\necho called >"%s"\n' "$own/called" >"$own/bin/rt"
+judge 'a release answers' "released watch -" "$("$svsim" watch -)"
+judge 'its status' 1 "$("$svsim" run "$own/file.toml" >/dev/null; echo $?)"
+says 'a word that is no command, of a release' 2 "rnu $own/file.toml" 'svsim: usage: svsim COMMAND FILE'
+says 'the version of a release' 0 --version ''
+judge 'its text' 'svsim of a release' "$(cat "$own/out")"
+says 'help of a release' 0 help ''
+judge 'it has nothing to prove' 0 "$(grep -c prove "$own/out")"
+says 'a proof of a release' 0 prove 'svsim: a release is proved already; svsim --version says from what'
+judge 'the tour of a release' 3 "$("$svsim" tour 2>&1 | grep -c '^released ')"
+judge 'a release calls no toolchain' no "$([ -e "$own/called" ] && echo yes || echo no)"
 echo "$passed passed, $failed failed"
 [ "$failed" = 0 ]
