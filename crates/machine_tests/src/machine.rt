@@ -1,13 +1,12 @@
-//! Shootdowns from their first event to their last, what fills a mailbox, and pages of each scheme.
-//! Spaces that are retired, given back and created again, and the machines that are opened, stand
-//! in the modules below.
+//! A shootdown from its first event to its last, and pages that Sv39 does not have. Retirements by
+//! harts that are not there, and the machines that are opened, stand in the modules below.
 
 ghost use Rattle.std.specs.Prelude.{◌<◌};
 ghost use Rattle.shoot.specs.declared.TheConstants.{MAX_TICKETS};
 
 use crate::common::{USER, address, assert_row, flags, page, spaces_of};
 use crate::first_machine::two_harts;
-use pte::{Access, Page, PageSize, PteFlags, Scheme, What};
+use pte::{Access, Page, PageSize, PteFlags, What};
 use std::alloc::Global;
 use std::process::Abort;
 use stepcore::{Config, Event, Machine, Place, Refusal, Reply, Request, Scope};
@@ -23,13 +22,6 @@ const WRITABLE: u8 = 0xD6;
 
 /// Harts 0 and 1.
 const BOTH: u8 = 0b11;
-
-fn two_harts_in_sv48() -> Config {
-    Config {
-        scheme: Scheme::Sv48,
-        ..two_harts()
-    }
-}
 
 /// There is ample memory for each machine of a test.
 fn opened(rt: &impl Abort, alloc: Global, config: &Config) -> Machine {
@@ -61,16 +53,6 @@ fn unmap(page: Page) -> Event {
 
 fn large_of_space(rt: &impl Abort) -> What {
     What::PageOf(large(rt), Some(1))
-}
-
-/// Maps the page of 4 KiB at 0x1000.
-fn map_small(rt: &impl Abort, space: u8, ppn: u64) -> Event {
-    map(
-        space,
-        page(rt, 0x1000, PageSize::Kib4),
-        ppn,
-        flags(READABLE),
-    )
 }
 
 fn map(space: u8, page: Page, ppn: u64, flags: PteFlags) -> Event {
@@ -105,10 +87,6 @@ fn begin(hart: u8, va: u64) -> Event {
 
 fn load(hart: u8) -> Event {
     Event::Load { hart }
-}
-
-fn switch(space: u8) -> Event {
-    Event::Switch { hart: 1, space }
 }
 
 fn post(ticket: u32) -> Event {
@@ -237,94 +215,6 @@ fn superpage_is_shot_down(rt: HostRuntime) {
     assert!(rt; translated(&rt, &machine) == 0);
 }
 
-/// Whether a run of the events of these rows, all at once, is answered by their replies.
-fn is_run(rt: &impl Abort, alloc: Global, machine: &mut Machine, rows: &[(Event, Reply)]) -> bool {
-    let mut events = Vec::new(alloc);
-    for (event, _) in rows {
-        events.push(*event).ok().expect(rt, "memory");
-    }
-    let mut replies = Vec::new(alloc);
-    machine.run(&events, &mut replies).ok().expect(rt, "memory");
-    are_replies(replies.as_slice(), rows)
-}
-
-fn are_replies(replies: &[Reply], rows: &[(Event, Reply)]) -> bool {
-    for (number, (_, reply)) in rows.iter().enumerate() {
-        if replies.get(number).copied() != Some(*reply) {
-            return false;
-        }
-    }
-    replies.len() == rows.len()
-}
-
-/// A mailbox of capacity 2 takes a third request once the acknowledgement of the first is
-/// collected. What waits at its close is still taken, in the order of the posts.
-#[test]
-fn mailbox_is_bounded_and_closed(rt: HostRuntime) {
-    let config = Config {
-        capacity: 2,
-        ..two_harts()
-    };
-    let mut machine = opened(&rt, rt.alloc(), &config);
-    let rows = [
-        (flush(Scope::All), Reply::Opened(0)),
-        (flush(Scope::All), Reply::Opened(1)),
-        (flush(Scope::All), Reply::Opened(2)),
-        (flush(Scope::All), Reply::Opened(3)),
-        (post(0), Reply::Ok),
-        (post(1), Reply::Ok),
-        (post(2), refused(Refusal::Full)),
-        (take(), taken(0, What::All)),
-        (serve_fence(), Reply::Ok),
-        (ack(), Reply::Ok),
-        (post(2), refused(Refusal::Full)),
-        (collect(0), Reply::Waiting(0b01)),
-        (post(2), Reply::Ok),
-        (Event::Close { hart: 0, to: 1 }, Reply::Ok),
-        (post(3), refused(Refusal::Closed)),
-        (take(), taken(1, What::All)),
-        (take(), refused(Refusal::Serving)),
-        (serve_fence(), Reply::Ok),
-        (ack(), Reply::Ok),
-        (take(), taken(2, What::All)),
-        (serve_fence(), Reply::Ok),
-        (ack(), Reply::Ok),
-        (take(), refused(Refusal::Empty)),
-    ];
-    assert!(rt; is_run(&rt, rt.alloc(), &mut machine, &rows));
-}
-
-/// A request for a space drops what hart 1 holds of it, and nothing of the other space.
-#[test]
-fn space_is_flushed(rt: HostRuntime) {
-    let rows = [
-        (map_small(&rt, 0, 0x100), Reply::Table(0x8_0003)),
-        (map_small(&rt, 0, 0x100), Reply::Table(0x8_0004)),
-        (map_small(&rt, 0, 0x100), Reply::Leaf),
-        (map_small(&rt, 1, 0x101), Reply::Table(0x8_0005)),
-        (map_small(&rt, 1, 0x101), Reply::Table(0x8_0006)),
-        (map_small(&rt, 1, 0x101), Reply::Leaf),
-        (begin(1, 0x1004), Reply::More),
-        (load(1), Reply::More),
-        (load(1), Reply::More),
-        (load(1), Reply::Filled(0x10_0004)),
-        (switch(1), Reply::Ok),
-        (begin(1, 0x1004), Reply::More),
-        (load(1), Reply::More),
-        (load(1), Reply::More),
-        (load(1), Reply::Filled(0x10_1004)),
-        (flush(Scope::Space(0)), Reply::Opened(0)),
-        (post(0), Reply::Ok),
-        (take(), taken(0, What::SpaceOf(1))),
-        (serve_fence(), Reply::Ok),
-        (ack(), Reply::Ok),
-        (begin(1, 0x1004), Reply::Hit(0x10_1004)),
-        (switch(0), Reply::Ok),
-        (begin(1, 0x1004), Reply::More),
-    ];
-    answers(&rt, rt.alloc(), &two_spaces(), &rows);
-}
-
 /// The page of 512 GiB at 0x80_0000_0000, which Sv48 alone has.
 fn largest(rt: &impl Abort) -> Page {
     page(rt, 0x80_0000_0000, PageSize::Gib512)
@@ -332,95 +222,6 @@ fn largest(rt: &impl Abort) -> Page {
 
 fn map_largest(rt: &impl Abort) -> Event {
     map(0, largest(rt), 0x1000_0000, flags(WRITABLE))
-}
-
-/// With Sv48 a page of 4 KiB has three tables between the root and its leaf, one of 512 GiB is a
-/// leaf of the root, and the window's slots lead to tables of level 2.
-#[test]
-fn pages_of_sv48(rt: HostRuntime) {
-    let kernel = page(&rt, 0xFFFF_FFFF_C000_0000, PageSize::Gib1);
-    let window = page(&rt, 0xFFFF_FF80_0000_0000, PageSize::Gib512);
-    let rows = [
-        (map_small(&rt, 0, 0x100), Reply::Table(0x8_0002)),
-        (map_small(&rt, 0, 0x100), Reply::Table(0x8_0003)),
-        (map_small(&rt, 0, 0x100), Reply::Table(0x8_0004)),
-        (map_small(&rt, 0, 0x100), Reply::Leaf),
-        (map_largest(&rt), Reply::Leaf),
-        (map_kernel(kernel, 0x4_0000), Reply::Leaf),
-        (
-            map_kernel(window, 0x1000_0000),
-            refused(Refusal::TableInWay),
-        ),
-        (begin(0, 0x80_8040_3ABC), Reply::More),
-        (load(0), Reply::Filled(0x100_8040_3ABC)),
-        (unmap(largest(&rt)), Reply::Opened(0)),
-        (begin(0, 0x80_8040_3ABC), Reply::Hit(0x100_8040_3ABC)),
-        (Event::AckSelf { hart: 0, ticket: 0 }, Reply::Waiting(0b10)),
-        (begin(0, 0x80_8040_3ABC), Reply::More),
-        (load(0), page_fault(Why::Invalid)),
-        (begin(1, 0x1ABC), Reply::More),
-        (load(1), Reply::More),
-        (load(1), Reply::More),
-        (load(1), Reply::More),
-        (load(1), Reply::Filled(0x10_0ABC)),
-    ];
-    answers(&rt, rt.alloc(), &two_harts_in_sv48(), &rows);
-}
-
-/// Maps the last page of 4 KiB of the page of 512 GiB.
-fn map_last(rt: &impl Abort) -> Event {
-    let last = page(rt, 0xFF_FFFF_F000, PageSize::Kib4);
-    map(0, last, 0x100, flags(READABLE))
-}
-
-/// How many of the pages of 1 GiB in the page of 512 GiB at 0x80_0000_0000 hart 1 translates at
-/// their first address.
-fn translated_of_largest(rt: &impl Abort, machine: &Machine) -> usize {
-    let mut count = 0_usize;
-    for k in 0..512_u64 {
-        if translates(rt, machine, 1, 0x80_0000_0000 + k * 0x4000_0000) && count < 512 {
-            count += 1;
-        }
-    }
-    count
-}
-
-/// A page of 512 GiB is unmapped while hart 1 holds it, and a page of 4 KiB in it mapped anew,
-/// which hart 1 does not see until it has served the request.
-#[test]
-fn largest_page_is_shot_down(rt: HostRuntime) {
-    let mut machine = opened(&rt, rt.alloc(), &two_harts_in_sv48());
-    let until_service = [
-        (map_largest(&rt), Reply::Leaf),
-        (begin(1, 0xFF_FFFF_FFFF), Reply::More),
-        (load(1), Reply::Filled(0x17F_FFFF_FFFF)),
-        (unmap(largest(&rt)), Reply::Opened(0)),
-        (begin(1, 0x80_0000_0000), Reply::Hit(0x100_0000_0000)),
-        (post(0), Reply::Ok),
-        (take(), taken(0, What::PageOf(largest(&rt), Some(1)))),
-    ];
-    steps(&rt, &mut machine, &until_service);
-    assert!(rt; translated_of_largest(&rt, &machine) == 512);
-    steps(
-        &rt,
-        &mut machine,
-        &[(serve_fence(), Reply::Ok), (ack(), Reply::Ok)],
-    );
-    assert!(rt; translated_of_largest(&rt, &machine) == 0);
-    assert!(rt; !translates(&rt, &machine, 1, 0xFF_FFFF_FFFF));
-    let after = [
-        (map_last(&rt), Reply::Table(0x8_0002)),
-        (map_last(&rt), Reply::Table(0x8_0003)),
-        (map_last(&rt), Reply::Table(0x8_0004)),
-        (map_last(&rt), Reply::Leaf),
-        (begin(1, 0xFF_FFFF_FFFF), Reply::More),
-        (load(1), Reply::More),
-        (load(1), Reply::More),
-        (load(1), Reply::More),
-        (load(1), Reply::Filled(0x10_0FFF)),
-    ];
-    steps(&rt, &mut machine, &after);
-    assert!(rt; translated_of_largest(&rt, &machine) == 0);
 }
 
 /// Hart 0 gives the page of 512 GiB at 0 of space 0 other flags.
@@ -450,22 +251,8 @@ fn pages_that_do_not_fit_sv39(rt: HostRuntime) {
             refused(Refusal::WrongHalf),
         ),
         (unmap(far), refused(Refusal::WrongHalf)),
-        (begin(0, 0x40_0000_0000), page_fault(Why::NotCanonical)),
     ];
     answers(&rt, rt.alloc(), &two_harts(), &rows);
-}
-
-/// The same pages fit Sv48.
-#[test]
-fn pages_that_fit_sv48(rt: HostRuntime) {
-    let far = page(&rt, 0x40_0000_0000, PageSize::Kib4);
-    let rows = [
-        (map(0, far, 0x100, flags(READABLE)), Reply::Table(0x8_0002)),
-        (unmap(far), refused(Refusal::NotMapped)),
-        (protect_first(&rt), refused(Refusal::WrongSize)),
-        (begin(0, 0x8000_0000_0000), page_fault(Why::NotCanonical)),
-    ];
-    answers(&rt, rt.alloc(), &two_harts_in_sv48(), &rows);
 }
 
 /// Two spaces of hart 0, of ASIDs 1 and 2. Two harts.
