@@ -3,11 +3,9 @@
 ghost use Rattle.std.specs.Prelude.{◌≡◌};
 
 use super::{
-    Answer, GIB, LEAF, LOW, MIB, MIDDLE, ROOT, Row, SMALL, SMALL_GLOBAL, VA, WORDS, answer_of,
-    are_answered, is_page, memory_of,
+    Answer, GIB, LEAF, LOW, MIB, MIDDLE, ROOT, SMALL, SMALL_GLOBAL, answer_of, is_page,
 };
 use crate::common::{USER, assert_row};
-use pte::Access::Load;
 use pte::PageSize::{Gib512, Kib4};
 use pte::Scheme::{Sv39, Sv48};
 use pte::{Access, Scheme};
@@ -183,8 +181,6 @@ const HALVES: [HalfRow; 9] = [
     (Sv39, 0xFFFF_8000_0000_0000, Err((13, NotCanonical)), 0),
 ];
 
-const WORKED: [Row; 1] = [(WORDS, USER, Load, VA, SMALL)];
-
 /// The ends of the two halves of each scheme: an address that is not canonical is refused before
 /// any word is read.
 #[test]
@@ -193,20 +189,6 @@ fn halves_of_each_scheme(rt: HostRuntime) {
         let is_right = is_loaded(*scheme, DEEP_WORDS, *va, *want, *loads);
         assert_row(&rt, number, is_right);
     }
-}
-
-#[test]
-fn old_rows_stay_under_sv39(rt: HostRuntime) {
-    are_answered(&rt, &WORKED);
-    let old = translate_in(
-        Scheme::Sv39,
-        &memory_of(WORDS),
-        ROOT,
-        VA,
-        Access::Load,
-        USER,
-    );
-    assert!(rt; answer_of(old) == SMALL);
 }
 
 /// The 512 GiB that are found begin at a multiple of their size.
