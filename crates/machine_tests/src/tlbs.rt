@@ -122,8 +122,8 @@ const SMALL: PageSize = PageSize::Kib4;
 /// mode, and what the entry answers.
 type TranslationRow = (Base, u64, u8, u64, Access, Result<u64, (u8, Why)>);
 
-/// A match tests permission, then accessed, then dirty; of a PPN 44 bits count.
-const TRANSLATIONS: [TranslationRow; 7] = [
+/// A match tests permission, then accessed; of a PPN 44 bits count.
+const TRANSLATIONS: [TranslationRow; 4] = [
     (
         NEAR,
         0x1_2345,
@@ -148,15 +148,6 @@ const TRANSLATIONS: [TranslationRow; 7] = [
         Access::Store,
         Err((15, Why::NotAccessed)),
     ),
-    (NEAR, 0x1_2345, 0x56, NEAR_VA, Access::Load, Ok(0x1234_5ABC)),
-    (
-        NEAR,
-        0x1_2345,
-        0x56,
-        NEAR_VA,
-        Access::Store,
-        Err((15, Why::NotDirty)),
-    ),
     (
         NEAR,
         0x1800_0001_2345,
@@ -164,14 +155,6 @@ const TRANSLATIONS: [TranslationRow; 7] = [
         NEAR_VA,
         Access::Load,
         Ok(0x80_0000_1234_5ABC),
-    ),
-    (
-        WIDEST,
-        0x1000_0000,
-        0x52,
-        0x80_8040_3ABC,
-        Access::Load,
-        Ok(0x100_8040_3ABC),
     ),
 ];
 
@@ -203,37 +186,6 @@ fn entries_translate(rt: HostRuntime) {
         let answer = entry.translate(address(&rt, *va), *access, USER);
         assert_row(&rt, number, answer == answer_of(*want));
     }
-}
-
-/// The physical address to which the entry that answers for an address space takes an access from
-/// user mode, or its fault, if there is an entry.
-fn translated(
-    rt: &impl Abort,
-    tlb: &Tlb,
-    asid: u16,
-    va: u64,
-    access: Access,
-) -> Option<Result<u64, Trap>> {
-    match lookup(rt, tlb, asid, va) {
-        Some(entry) => Some(entry.translate(address(rt, va), access, USER)),
-        None => None,
-    }
-}
-
-#[test]
-fn what_a_walk_found_answers(rt: HostRuntime) {
-    let found = Found {
-        pa: 0x3F_FFFF,
-        page: page(&rt, 0x40_0000, PageSize::Mib2),
-        ppn: 0x200,
-        flags: flags(0xD6),
-        global: false,
-    };
-    let mut tlb = Tlb::new();
-    tlb.fill(Entry::found(1, &found));
-    let answer = translated(&rt, &tlb, 1, 0x5F_FFFF, Access::Store);
-    assert_row(&rt, 0, answer == Some(Ok(0x3F_FFFF)));
-    assert_row(&rt, 1, lookup(&rt, &tlb, 2, 0x5F_FFFF).is_none());
 }
 
 /// The PPN of the entry that answers for an address of an address space.

@@ -1,8 +1,8 @@
 //! The oldest entry of a TLB answers, and is dropped by the fill of a full one.
 
-use super::{Base, ppn_at, translated};
+use super::{Base, ppn_at};
 use crate::common::{assert_row, flags, page};
-use pte::{Access, PageSize, What};
+use pte::{PageSize, What};
 use std::process::Abort;
 use tlb::{Entry, Tlb};
 
@@ -28,17 +28,6 @@ fn fill_pages(rt: &impl Abort, tlb: &mut Tlb, first: u16, end: u16) {
     for k in first..end {
         fill_page(rt, tlb, k, 0x300);
     }
-}
-
-#[test]
-fn the_seventeenth_fill_drops_the_oldest(rt: HostRuntime) {
-    let mut tlb = Tlb::new();
-    for k in 1..18_u16 {
-        fill_page(&rt, &mut tlb, k, 0x100 + u64::from(k));
-    }
-    let answer = translated(&rt, &tlb, 1, 0x2000, Access::Load);
-    assert_row(&rt, 0, answer == Some(Ok(0x10_2000)));
-    assert_row(&rt, 1, ppn_at(&rt, &tlb, 1, 0x1000).is_none());
 }
 
 #[test]
