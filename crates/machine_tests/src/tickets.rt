@@ -125,28 +125,6 @@ fn own_acknowledgement_is_collected(rt: HostRuntime) {
     are_as_told(&rt, &mut Tickets::new(0), &steps);
 }
 
-#[test]
-fn own_acknowledgement_needs_no_collect(rt: HostRuntime) {
-    let steps = [
-        Step::Open(What::All, 0b11, Ok(0)),
-        Step::Tell(0, Told::IsOpen(true)),
-        Step::Tell(0, Told::Names(0, true)),
-        Step::Acked(0, 0),
-        Step::Tell(0, Told::IsOpen(true)),
-        Step::Tell(0, Told::Names(1, true)),
-        Step::Collect(0, 1, WAITING),
-        Step::Tell(0, Told::IsOpen(true)),
-        Step::Tell(0, Told::Names(1, true)),
-        Step::Acked(0, 1),
-        Step::Tell(0, Told::IsOpen(true)),
-        Step::Tell(0, Told::Names(1, true)),
-        Step::Collect(0, 1, Collected::Done),
-        Step::Tell(0, Told::IsOpen(true)),
-        Step::Finish(0, true),
-    ];
-    are_as_told(&rt, &mut Tickets::new(0), &steps);
-}
-
 /// The page of 2 MiB at 0x40_0000 of the address space 1.
 fn superpage(rt: &impl Abort) -> What {
     What::PageOf(page(rt, 0x40_0000, PageSize::Mib2), Some(1))
@@ -222,34 +200,6 @@ fn tickets_and_harts_are_told_apart(rt: HostRuntime) {
 }
 
 #[test]
-fn freed_number_is_taken_again(rt: HostRuntime) {
-    let mut tickets = Tickets::new(0);
-    for number in 0..64_u32 {
-        let opened = Step::Open(What::SpaceOf(1), 0b1, Ok(number));
-        are_as_told(&rt, &mut tickets, &[opened]);
-    }
-    let steps = [
-        Step::Open(What::All, 0b1, Err(TicketFault::NoTicket)),
-        Step::Open(What::All, 0b10, Err(TicketFault::HomeNotNamed)),
-        Step::Tell(5, Told::IsOpen(true)),
-        Step::Tell(5, Told::Names(0, true)),
-        Step::Acked(5, 0),
-        Step::Tell(5, Told::IsOpen(true)),
-        Step::Finish(5, true),
-        Step::Tell(5, Told::IsOpen(false)),
-        Step::Tell(4, Told::IsOpen(true)),
-        Step::Tell(6, Told::IsOpen(true)),
-        Step::Open(What::All, 0b1, Ok(5)),
-        Step::Tell(5, Told::IsOpen(true)),
-        Step::Tell(5, Told::Asks(What::All)),
-        Step::Tell(5, Told::IsAcked(0, false)),
-        Step::Open(What::All, 0b1, Err(TicketFault::NoTicket)),
-        Step::Tell(64, Told::IsOpen(false)),
-    ];
-    are_as_told(&rt, &mut tickets, &steps);
-}
-
-#[test]
 fn sets_of_harts(rt: HostRuntime) {
     let mut set = HartSet::new();
     assert!(&rt; set.is_empty() && HartSet::default() == set);
@@ -295,11 +245,6 @@ fn lowest_free(tickets: &Tickets) -> Option<u32> {
     None
 }
 
-/// The numbers of tickets that are freed, and of those that are opened again.
-const FREED: [u32; 6] = [40, 7, 63, 0, 32, 31];
-
-const OPENED: [u32; 4] = [32, 40, 62, 63];
-
 #[test]
 fn lowest_free_number_is_opened(rt: HostRuntime) {
     let mut tickets = Tickets::new(0);
@@ -307,18 +252,6 @@ fn lowest_free_number_is_opened(rt: HostRuntime) {
         let would_open = Step::WouldOpen(0b1, Ok(number));
         assert_row(&rt, number as usize, is_as_told(&mut tickets, &would_open));
         opens(&rt, &mut tickets, number);
-    }
-    for number in &FREED {
-        finish_own(&rt, &mut tickets, *number);
-    }
-    opens(&rt, &mut tickets, 0);
-    opens(&rt, &mut tickets, 7);
-    finish_own(&rt, &mut tickets, 5);
-    opens(&rt, &mut tickets, 5);
-    opens(&rt, &mut tickets, 31);
-    finish_own(&rt, &mut tickets, 62);
-    for number in &OPENED {
-        opens(&rt, &mut tickets, *number);
     }
     let none = Step::Open(What::All, 0b1, Err(TicketFault::NoTicket));
     assert_row(&rt, 64, is_as_told(&mut tickets, &none));
