@@ -9,7 +9,6 @@ use pte::Access::{Fetch, Load, Store};
 use pte::PageSize::{Gib1, Kib4, Mib2};
 use pte::{Access, Kind, PageSize, Pte};
 use std::cell::Cell;
-use std::process::Abort;
 use walk::Why::{Denied, NotAccessed, NotDirty};
 use walk::{Found, Trap, Why, Words, flags_fault, translate};
 
