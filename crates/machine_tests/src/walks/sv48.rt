@@ -2,9 +2,7 @@
 
 ghost use Rattle.std.specs.Prelude.{◌≡◌};
 
-use super::{
-    Answer, GIB, LEAF, LOW, MIB, MIDDLE, ROOT, SMALL, SMALL_GLOBAL, answer_of, is_page,
-};
+use super::{Answer, GIB, LEAF, LOW, MIB, MIDDLE, ROOT, SMALL, SMALL_GLOBAL, answer_of, is_page};
 use crate::common::{USER, assert_row};
 use pte::PageSize::{Gib512, Kib4};
 use pte::Scheme::{Sv39, Sv48};
