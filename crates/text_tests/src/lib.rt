@@ -29,6 +29,8 @@ mod refusal_numbers;
 #[cfg(test)]
 mod samples;
 #[cfg(test)]
+mod stale_runs;
+#[cfg(test)]
 mod steps_read;
 #[cfg(test)]
 mod texts;
