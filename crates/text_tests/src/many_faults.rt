@@ -15,31 +15,3 @@ fn too_many_steps(rt: HostRuntime) -> Result<(), Fail> {
     assert!(rt; checked.lines.len() == 1);
     Ok(())
 }
-
-const LAST: &str = "\n200 faults are told, and there may be more\n";
-
-#[test]
-fn no_more_than_200_faults(rt: HostRuntime) -> Result<(), Fail> {
-    let mut text = String::from_str(rt.alloc(), "steps = [")?;
-    for _ in 0..300 {
-        text.push_str("'0 laod',")?;
-    }
-    text.push_str("]")?;
-    let checked = check_text(rt.alloc(), text.as_str())?;
-    assert!(rt; checked.lines.len() == 200);
-    assert!(rt; checked.text.as_str().ends_with(LAST));
-    Ok(())
-}
-
-/// Keys that are not known come first, and after 200 of them no wrong value of another has a line.
-#[test]
-fn no_more_than_200_faults_of_keys(rt: HostRuntime) -> Result<(), Fail> {
-    let mut text = String::from_str(rt.alloc(), "mode = 3\nbase = 3\n")?;
-    for number in 0..250 {
-        writeln!(text, "key{number} = 1")?;
-    }
-    let checked = check_text(rt.alloc(), text.as_str())?;
-    assert!(rt; checked.lines.len() == 200);
-    assert!(rt; checked.text.as_str().ends_with(LAST));
-    Ok(())
-}

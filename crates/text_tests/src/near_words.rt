@@ -1,6 +1,5 @@
-//! Words that are nearly alike, and the one that is meant.
-use crate::asserting::assert_of;
-use checks::{is_near, nearest};
+//! Words that are nearly alike.
+use checks::is_near;
 
 /// Two words, and the least number of edits that make one of the other.
 const DISTANCES: [(&str, &str, u8); 12] = [
@@ -33,27 +32,5 @@ fn distances(rt: HostRuntime) {
                 "{other} {word} {most}"
             );
         }
-    }
-}
-
-const NAMES: [&str; 4] = ["take", "ack", "make", "harts"];
-
-/// A word, and the name that is meant.
-const MEANT: [(&str, Option<&str>); 7] = [
-    ("ack", Some("ack")),
-    ("tak", Some("take")),
-    // both "take" and "make" are one edit away: the first of them
-    ("bake", Some("take")),
-    // "ack" is one edit away, and "take", which stands before it, two
-    ("ak", Some("ack")),
-    ("tkae", Some("take")),
-    ("hart", Some("harts")),
-    ("window", None),
-];
-
-#[test]
-fn meant(rt: HostRuntime) {
-    for (word, name) in MEANT {
-        assert_of(&rt, word, nearest(word, &NAMES) == name);
     }
 }

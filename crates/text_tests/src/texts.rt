@@ -1,44 +1,18 @@
-//! What no clause says of calls on texts: the lines with ample memory, the printed texts of faults, and
-//! words that can't be read.
+//! What no clause says of calls on texts: a writer that is full, the printed texts of faults, and words
+//! that can't be read.
 use crate::ends::{AtEnd, Narrow};
 use crate::samples::FILE;
 use harts::OpenGate;
-use scenario::{Fault, NoWords, StepFault, answer_words, run_text, walk_text};
+use scenario::{Fault, NoWords, StepFault, answer_words, walk_text};
 use std::test::Fail;
 
+/// What a full writer took before the fault.
 #[test]
-fn texts_are_answered(rt: HostRuntime) -> Result<(), Fail> {
+fn text_that_is_not_taken(rt: HostRuntime) {
     let alloc = rt.alloc();
-    let mut out: Vec<u8> = Vec::new(alloc);
-    assert!(rt; matches!(walk_text(alloc, FILE, &mut out), Ok(())));
-    assert!(rt; out.as_slice() == b"1 pa 0x12345abc 4K\n".as_slice());
-    let mut out: Vec<u8> = Vec::new(alloc);
-    let done = run_text(alloc, "steps = [\"0 flush all 0\"]", &mut out);
-    assert!(rt; matches!(done, Ok(())));
-    assert!(rt; out.as_slice() == b"1 opened 0\n".as_slice());
-    Ok(())
-}
-
-#[test]
-fn faults_are_printed(rt: HostRuntime) -> Result<(), Fail> {
-    let alloc = rt.alloc();
-    for (text, shown) in [
-        ("=", "not TOML"),
-        ("b = 1\na = 1", "key a: wrong"),
-        ("steps = [\"\"]", "step 1: not a step"),
-    ] {
-        let mut out: Vec<u8> = Vec::new(alloc);
-        let Err(fault) = walk_text(alloc, text, &mut out) else {
-            return Err(Fail::from("a fault was looked for"));
-        };
-        let told = format!(in alloc; "{fault}")?;
-        assert!(rt; told.as_str() == shown);
-        assert!(rt; out.is_empty());
-    }
     let mut out = Narrow::new(alloc, 1, 3, AtEnd::Fails);
     assert!(rt; matches!(walk_text(alloc, FILE, &mut out), Err(Fault::Output)));
     assert!(rt; out.held.as_slice() == b"1 p".as_slice());
-    Ok(())
 }
 
 #[test]
