@@ -2,8 +2,8 @@
 """Compares the lists of cases with what a program answers: cases.py PROGRAM LIST ..
 
 PROGRAM stands for svsim, and LIST is a file of examples/cases/lists, whose form examples/cases/README.md tells. For each answer that is
-another it prints the case, the words and what came. It is for those who add a case: the gate compares by svsim_examples. The last line is
-`N passed, M failed`.
+another it prints the case, the words and what came. It is for those who add a case: the gate compares by svsim_examples. A list without
+a case, a case without an answer, and a line `---` of another form are refused. The last line is `N passed, M failed`.
 """
 import os, re, subprocess, sys, tempfile
 
@@ -16,15 +16,22 @@ def read(path):
         return file.read()
 
 
-def cases(text):
+def cases(path, text):
     """The title of each case, its file, and its answers: words, status, line on standard error, and standard output."""
-    for case in re.split(r"(?m)^=== ", text)[1:]:
+    _, *found = re.split(r"(?m)^=== ", text)
+    if not found:
+        sys.exit(f"{path}: no case")
+    for case in found:
         title, _, body = case.partition("\n")
         file, *answers = re.split(r"(?m)^--- ", body)
+        if not answers:
+            sys.exit(f"{path}: {title}: no answer")
         for answer in answers:
             line, _, printed = answer.partition("\n")
-            words, status, error = ANSWER.fullmatch(line).groups()
-            yield title, file, words, (int(status), error or "", printed)
+            parts = ANSWER.fullmatch(line)
+            if not parts:
+                sys.exit(f"{path}: {title}: --- {line}")
+            yield title, file, parts[1], (int(parts[2]), parts[3] or "", printed)
 
 
 def answer(program, file, words):
@@ -40,7 +47,7 @@ def answer(program, file, words):
 def main(program, paths):
     passed = failed = 0
     for path in paths:
-        for title, file, words, wanted in cases(read(path)):
+        for title, file, words, wanted in cases(path, read(path)):
             got = answer(program, file, words)
             passed, failed = passed + (got == wanted), failed + (got != wanted)
             if got != wanted:

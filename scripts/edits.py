@@ -73,8 +73,12 @@ def check_list(found, listed):
 
 
 def check_log(listed, told):
-    for name, goal in sorted(told.items()):
-        yield goal is not None and goal == listed.get(name), f"{name}: {goal or 'not refused'}, and not {listed.get(name)}"
+    """Each edit of the log, and each that is listed of a crate of which the log has some."""
+    tried = {name.split("/")[0] for name in told}
+    yield tried != set(), "the log has no edit"
+    for name in sorted(told.keys() | {name for name in listed if name.split("/")[0] in tried}):
+        goal = told.get(name)
+        yield goal is not None and goal == listed.get(name), f"{name}: {goal or 'not tried, or not refused'}, and not {listed.get(name)}"
 
 
 def write(told):

@@ -11,8 +11,9 @@ which is the lowest first, it times whole commands, and prints the processor's m
 
 With --each-edit it tries each edit of a crate alone (`rt must-fail NAME`), and lists the ten dearest.
 
-What passed is kept on the machine, so each call does what is new alone: on a machine that has kept nothing yet, the sum is what `rt ci`
-takes from nothing. The status is 1 if a call failed.
+What passed is kept on the machine, so each call does what is new alone: on a machine that has kept nothing yet, the sum over all crates
+is what `rt ci` takes from nothing. Of crates that are named the first then has the cost of those below it too. The status is 1 if a call
+failed.
 """
 import os, re, resource, shutil, subprocess, sys, tempfile, time
 

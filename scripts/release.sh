@@ -102,12 +102,11 @@ fi
     echo "svsim $version"
     if sed -n '/^## Unreleased/,/^## [0-9]/p' "$top/CHANGELOG.md" | grep -q '^- '; then echo 'with what CHANGELOG.md calls unreleased'; fi
     echo "commit $commit of $day"
-    echo 'proved'
     (cd "$top" && rt version)
     if [ -z "$gate" ]; then
-        echo "the gate's result was not given"
+        echo "built by rt, which proves what it builds; the gate's result was not given"
     else
-        echo 'the gate ended with'
+        echo 'proved: the gate ended with'
         printf '%s\n' "$ended" | sed 's/^/    /'
     fi
     echo "needs ${needs:-no library} on Linux, x86-64"

@@ -17,7 +17,7 @@ library=$(readlink -f "${2:-$top/crates/melissaledge_c/out/libmelissaledge_c.a}"
 for file in "$program" "$library"; do
     [ -f "$file" ] || { echo "release_test: $file is not there" >&2; exit 2; }
 done
-own=$(mktemp -d)
+own=$(mktemp -d) || exit 2
 installed=no
 # Removes what this script has made, the package too.
 leave() {
