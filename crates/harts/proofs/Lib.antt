@@ -6,3 +6,5 @@ pub mod Woven
 pub mod Freeing
 pub mod Refusing
 pub mod Dropping
+pub mod PlayLemmas
+pub mod Pinned

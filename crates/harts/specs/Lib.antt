@@ -4,3 +4,6 @@ pub mod Scripts
 pub mod Turns
 pub mod Free
 pub mod Refused
+pub mod Performs
+pub mod Gates
+pub mod Plays

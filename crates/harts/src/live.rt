@@ -4,8 +4,9 @@ ghost use Rattle.std.specs.Prelude.{◌≡◌, ◌≤◌, ◌<◌, ◌↔◌, Al
 ghost use Rattle.spaces.specs.Limits.{MeetsLimits};
 ghost use Rattle.spaces.specs.declared.configuration.TheConstants.{MAX_LIVE_FRAMES};
 ghost use Rattle.history.specs.Setup.{setup_of};
-ghost use Rattle.board.specs.Ports.{ArePorts, name_of};
+ghost use Rattle.board.specs.Ports.{ArePorts, AreNew, name_of};
 ghost use Rattle.board.specs.Reports.{pairs_of};
+ghost use Rattle.harts.specs.Plays.{HaveRun};
 ghost use Rattle.harts.specs.Scripts.{are_made, AreAnswered};
 
 use crate::gate::Gate;
@@ -27,6 +28,7 @@ fn open(alloc: Global, config: &Config) -> Result<(Board, Vec<HartPort>), LiveFa
     ensures limits { OnOk result (MeetsLimits MAX_LIVE_FRAMES config.now) }
     ensures board { IfOk result (λ r. r.0 ≡ setup_of config.now) }
     ensures ports { IfOk result (λ r. ArePorts (setup_of config.now) (map name_of r.1.items)) }
+    ensures new { IfOk result (λ r. AreNew r.1.items) }
     ensures count { IfOk result (λ r. length r.1.items ≡ config.now.harts) }
 {
     let opened = Board::open(alloc, config)?;
@@ -38,11 +40,13 @@ fn open(alloc: Global, config: &Config) -> Result<(Board, Vec<HartPort>), LiveFa
 /// has none. `gate` is asked before each step of a script, and called after it.
 ///
 /// At `Ok` each step of setup has its answer, and each step of a script, up to its end or to the
-/// step before which the gate ended it: that one is answered `Halted`, and nothing follows. Only a
-/// wait answers `Timeout`.
+/// step before which the gate ended it: that one is answered `Halted`, and nothing follows. What a
+/// step does of its port and answers is what the port's own call does and answers (`Performs`), from
+/// ports that were just opened on.
 ///
-/// A wait takes at most `turns` turns. In a turn the hart serves once from each other hart, the
-/// lowest first, and then collects the ticket. A hart whose script has ended serves every other
+/// A wait takes at most `turns` turns, and then answers `Timeout`. In a turn the hart serves once
+/// from each other hart, the lowest first, and then collects the ticket; a turn that finds it done or
+/// not open is the last. A hart whose script has ended serves every other
 /// hart in turns, until all scripts have ended or `turns` turns passed. All room for answers is
 /// taken before the first thread starts.
 ///
@@ -68,6 +72,10 @@ pub fn run_live<R: Threads + Wait + Sync, G: Gate + Sync>(
     ensures scripts { IfOk result (λ r. length r.scripts.items ≡ config.now.harts) }
     ensures answered { IfOk result (λ r. AreAnswered (map (λ script. script.items) scripts.now)
         (map (λ replies. replies.items) r.scripts.items)) }
+    ensures ran { IfOk result (λ r. HaveRun
+        (record { gate = G.says gate.now; harts = config.now.harts; turns = turns })
+        (setup_of config.now) setup.now r.setup.items (map (λ script. script.items) scripts.now)
+        (map (λ replies. replies.items) r.scripts.items)) }
     ensures pairs { IfOk result (λ r.
         map (λ pair. (pair.sender, pair.receiver)) r.report.pairs.items
         ≡ pairs_of config.now.harts config.now.harts) }
@@ -76,7 +84,10 @@ pub fn run_live<R: Threads + Wait + Sync, G: Gate + Sync>(
     let latch = Latch::new(config.harts as u8);
     let mut answers = Vec::with_capacity(alloc, setup.len())?;
     for (hart, step) in setup {
-        answers.push_reserved(step_of(&mut ports, *hart, step, turns, &latch));
+        let Some(reply) = step_of(&mut ports, *hart, step, turns, &latch) else {
+            return Err(LiveFault::NoThread);
+        };
+        answers.push_reserved(reply);
     }
     let empty = Vec::new(alloc);
     let roles = roles_of(alloc, ports, scripts, &empty)?;

@@ -1,5 +1,7 @@
 //! The latch of a live run, for which its threads wait.
 
+ghost use Rattle.std.specs.Prelude.{◌≡◌};
+
 use std::sync::atomic::{AtomicBool, AtomicU32, Ordering};
 
 /// Counts the scripts of a run that have ended, and records whether the run was abandoned. It is
@@ -13,7 +15,9 @@ pub(crate) struct Latch {
 
 impl Latch {
     /// The latch of a run of this many harts, of which no script has ended.
-    pub(crate) fn new(harts: u8) -> Latch {
+    pub(crate) fn new(harts: u8) -> Latch
+        ensures { result.harts ≡ harts }
+    {
         Latch {
             harts,
             ended: AtomicU32::new(0),

@@ -1,10 +1,8 @@
 //! What a step of a live run answers.
 
-ghost use Rattle.std.specs.Prelude.{◌≡◌, ℕ, true, Ok, IfOk, IfErr};
-ghost use Rattle.history.specs.declared.reply.Reply.TheVariants as reply;
-ghost use Rattle.board.specs.declared.mapped.Mapped.TheVariants as mapped;
-ghost use Rattle.shoot.specs.declared.tickets.Collected.TheVariants as collected;
+ghost use Rattle.std.specs.Prelude.{◌≡◌, true};
 ghost use Rattle.history.specs.declared.live_step.LiveStep.{LiveStep};
+ghost use Rattle.harts.specs.Performs.{call_reply, collection_reply, is_waiting, map_reply, opening_reply, service_reply, translation_reply};
 ghost use Rattle.harts.specs.Scripts.{may_answer};
 
 use board::Mapped;
@@ -27,13 +25,10 @@ pub enum LiveReply {
 }
 
 impl LiveReply {
-    ghost use Rattle.harts.specs.declared.live_reply.LiveReply.TheVariants as live;
-
     /// The answer of a translation.
     pub(crate) fn of_translation(answer: Result<u64, Trap>) -> LiveReply
         ensures made { (step : LiveStep) → may_answer step result ≡ true }
-        ensures found { IfOk answer (λ pa. result ≡ live.Translated pa) }
-        ensures trap { IfErr answer (λ trap. result ≡ live.Replied (reply.Trap trap)) }
+        ensures reply { result ≡ translation_reply answer }
     {
         match answer {
             Ok(pa) => LiveReply::Translated(pa),
@@ -44,10 +39,7 @@ impl LiveReply {
     /// The answer of a step of mapping.
     pub(crate) fn of_map(answer: Result<Mapped, Refusal>) -> LiveReply
         ensures made { (step : LiveStep) → may_answer step result ≡ true }
-        ensures table { (ppn : ℕ) → answer ≡ Ok (mapped.Table ppn)
-            → result ≡ live.Replied (reply.Table ppn) }
-        ensures leaf { answer ≡ Ok mapped.Leaf → result ≡ live.Replied reply.Leaf }
-        ensures refused { IfErr answer (λ refusal. result ≡ live.Replied (reply.Refused refusal)) }
+        ensures reply { result ≡ map_reply answer }
     {
         match answer {
             Ok(Mapped::Table(ppn)) => LiveReply::Replied(Reply::Table(ppn)),
@@ -59,8 +51,7 @@ impl LiveReply {
     /// The answer of a call that opens a ticket.
     pub(crate) fn of_opening(answer: Result<u32, Refusal>) -> LiveReply
         ensures made { (step : LiveStep) → may_answer step result ≡ true }
-        ensures opened { IfOk answer (λ ticket. result ≡ live.Replied (reply.Opened ticket)) }
-        ensures refused { IfErr answer (λ refusal. result ≡ live.Replied (reply.Refused refusal)) }
+        ensures reply { result ≡ opening_reply answer }
     {
         match answer {
             Ok(ticket) => LiveReply::Replied(Reply::Opened(ticket)),
@@ -71,8 +62,7 @@ impl LiveReply {
     /// The answer of a call that returns no value.
     pub(crate) fn of_call(answer: Result<(), Refusal>) -> LiveReply
         ensures made { (step : LiveStep) → may_answer step result ≡ true }
-        ensures ok { IfOk answer (λ _. result ≡ live.Replied reply.Ok) }
-        ensures refused { IfErr answer (λ refusal. result ≡ live.Replied (reply.Refused refusal)) }
+        ensures reply { result ≡ call_reply answer }
     {
         match answer {
             Ok(()) => LiveReply::Replied(Reply::Ok),
@@ -83,8 +73,7 @@ impl LiveReply {
     /// The answer of a service.
     pub(crate) fn of_service(answer: Result<Request, Refusal>) -> LiveReply
         ensures made { (step : LiveStep) → may_answer step result ≡ true }
-        ensures taken { IfOk answer (λ request. result ≡ live.Replied (reply.Taken request)) }
-        ensures refused { IfErr answer (λ refusal. result ≡ live.Replied (reply.Refused refusal)) }
+        ensures reply { result ≡ service_reply answer }
     {
         match answer {
             Ok(request) => LiveReply::Replied(Reply::Taken(request)),
@@ -95,15 +84,19 @@ impl LiveReply {
     /// The answer of a call that returns how far a ticket is.
     pub(crate) fn of_collection(answer: Result<Collected, Refusal>) -> LiveReply
         ensures made { (step : LiveStep) → may_answer step result ≡ true }
-        ensures done { answer ≡ Ok collected.Done → result ≡ live.Replied reply.Done }
-        ensures waiting { (harts : ℕ) → answer ≡ Ok (collected.Waiting harts)
-            → result ≡ live.Replied (reply.Waiting harts) }
-        ensures refused { IfErr answer (λ refusal. result ≡ live.Replied (reply.Refused refusal)) }
+        ensures reply { result ≡ collection_reply answer }
     {
         match answer {
             Ok(Collected::Done) => LiveReply::Replied(Reply::Done),
             Ok(Collected::Waiting(harts)) => LiveReply::Replied(Reply::Waiting(harts)),
             Err(refusal) => LiveReply::Replied(Reply::Refused(refusal)),
         }
+    }
+
+    /// Whether a ticket was found open and not done.
+    pub(crate) fn is_waiting(&self) -> bool
+        ensures { result ≡ is_waiting self.now }
+    {
+        matches!(self, LiveReply::Replied(Reply::Waiting(_)))
     }
 }

@@ -1,0 +1,5 @@
+use Rattle.harts.proofs.Pinned.{open_gate_halts_none}
+use Rattle.harts.proofs.laws.open_gate_halts_none.Goals as goal
+
+pub returns : goal.returns
+returns c = open_gate_halts_none
