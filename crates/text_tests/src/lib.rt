@@ -21,6 +21,8 @@ mod many_faults;
 #[cfg(test)]
 mod near_words;
 #[cfg(test)]
+mod no_steps;
+#[cfg(test)]
 mod pictures;
 #[cfg(test)]
 mod readers_and_writers;

@@ -47,6 +47,19 @@ fn translate(va: u64, access: Access, mxr: bool) -> LiveStep {
 
 #[test]
 fn lines_of_tickets(rt: HostRuntime) {
+    let (ticket, to, from) = (63, 7, 5);
+    assert_script(
+        &rt,
+        &[
+            ("post 63 0x7", LiveStep::Post { ticket, to }),
+            ("serve 5", LiveStep::Serve { from }),
+            ("ackself 0x3F", LiveStep::AckSelf { ticket }),
+            ("collect 63", LiveStep::Collect { ticket }),
+            ("finish 063", LiveStep::Finish { ticket }),
+            ("close 7", LiveStep::Close { to }),
+            (" wait\t63 ", LiveStep::Wait { ticket }),
+        ],
+    );
     let ticket = u32::MAX;
     assert_script(
         &rt,
@@ -60,7 +73,8 @@ fn lines_of_tickets(rt: HostRuntime) {
 #[test]
 fn lines_of_fences(rt: HostRuntime) {
     let access = Access::Fetch;
-    let space = 255;
+    let (scope, named, space) = (Scope::Space(31), 0x81, 255);
+    let (rs1, rs2) = (None, Some(0xffff));
     assert_script(
         &rt,
         &[
@@ -69,7 +83,9 @@ fn lines_of_fences(rt: HostRuntime) {
                 translate(0x1004, access, true),
             ),
             ("translate u fetch 1", translate(1, access, false)),
+            ("flush 31 7,0,7", LiveStep::Flush { scope, named }),
             ("switch 255", LiveStep::Switch { space }),
+            ("fence x0 65535", LiveStep::Fence { rs1, rs2 }),
         ],
     );
     let (scope, named) = (Scope::All, 0);
@@ -79,8 +95,14 @@ fn lines_of_fences(rt: HostRuntime) {
 #[test]
 fn lines_of_edits(rt: HostRuntime) -> Result<(), Fail> {
     let page = page(Scheme::Sv39, 0xffff_ffff_c020_0000, PageSize::Mib2)?;
-    let (place, named) = (Place::Kernel, 0x0a);
+    let (place, ppn, named) = (Place::Kernel, 0x200, 0x0a);
     let flags = PteFlags::R | PteFlags::W | PteFlags::G | PteFlags::A | PteFlags::D;
+    let map = LiveStep::Map {
+        place,
+        page,
+        ppn,
+        flags,
+    };
     let unmap = LiveStep::Unmap { place, page, named };
     let protect = LiveStep::Protect {
         place,
@@ -91,6 +113,7 @@ fn lines_of_edits(rt: HostRuntime) -> Result<(), Fail> {
     assert_script(
         &rt,
         &[
+            ("map k 2M:0xFFFFFFFFC0200000 0x200 dagwr", map),
             ("unmap k 2M:0xffffffffc0200000 1,3", unmap),
             ("protect k 2M:0xffffffffc0200000 rwgad 3,1", protect),
         ],
@@ -102,50 +125,17 @@ fn lines_of_edits(rt: HostRuntime) -> Result<(), Fail> {
 
 #[test]
 fn lines_of_the_setup(rt: HostRuntime) {
+    let (ticket, to, from) = (0, 0, 1);
     assert_setup(
         &rt,
-        &[("0 translate u load 4", 0, translate(4, Access::Load, false))],
+        &[
+            ("0 translate u load 4", 0, translate(4, Access::Load, false)),
+            ("7 post 0 0", 7, LiveStep::Post { ticket, to }),
+            (" 0x3\tserve 1", 3, LiveStep::Serve { from }),
+            ("06 collect 0", 6, LiveStep::Collect { ticket }),
+            ("1 wait 0", 1, LiveStep::Wait { ticket }),
+        ],
     );
-}
-
-/// Each text has the fault as a line of a script, for this number of harts.
-fn assert_script_faults(rt: &impl Abort, harts: u8, fault: StepFault, texts: &[&str]) {
-    for text in texts {
-        assert_of(
-            rt,
-            text,
-            live_step_among(Scheme::Sv39, harts, text) == Err(fault),
-        );
-    }
-}
-
-/// Each text has the fault as a line of the setup, for this number of harts.
-fn assert_setup_faults(rt: &impl Abort, harts: u8, fault: StepFault, texts: &[&str]) {
-    for text in texts {
-        assert_of(
-            rt,
-            text,
-            setup_step_among(Scheme::Sv39, harts, text) == Err(fault),
-        );
-    }
-}
-
-/// No steps of a script.
-const NO_SCRIPT_STEPS: [&str; 4] = ["", "load", "collect 1 0", "flush 0 9,"];
-
-/// No steps of a setup.
-const NO_SETUP_STEPS: [&str; 4] = ["", "9 load", "9 collect 1 0", "9 flush all 9,x"];
-
-#[test]
-fn lines_of_no_form(rt: HostRuntime) {
-    assert_script_faults(&rt, 0, StepFault::NotStep, &NO_SCRIPT_STEPS);
-    assert_setup_faults(&rt, 0, StepFault::NotStep, &NO_SETUP_STEPS);
-}
-
-#[test]
-fn pages_of_512_gib(rt: HostRuntime) {
-    let line = "unmap 0 512G:0x8000000000 0";
-    assert!(rt; live_step_among(Scheme::Sv39, 0, line) == Err(StepFault::NotStep));
 }
 
 #[test]

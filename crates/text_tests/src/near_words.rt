@@ -1,5 +1,6 @@
-//! Words that are nearly alike.
-use checks::is_near;
+//! Words that are nearly alike, and the one that is meant.
+use crate::asserting::assert_of;
+use checks::{is_near, nearest};
 
 /// Two words, and the least number of edits that make one of the other.
 const DISTANCES: [(&str, &str, u8); 12] = [
@@ -32,5 +33,15 @@ fn distances(rt: HostRuntime) {
                 "{other} {word} {most}"
             );
         }
+    }
+}
+
+const NAMES: [&str; 4] = ["take", "ack", "make", "harts"];
+
+/// A word that is a name means itself. Where two names are one edit away, the first is meant.
+#[test]
+fn meant(rt: HostRuntime) {
+    for (word, name) in [("ack", "ack"), ("bake", "take")] {
+        assert_of(&rt, word, nearest(word, &NAMES) == Some(name));
     }
 }

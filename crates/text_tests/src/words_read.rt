@@ -1,8 +1,29 @@
-//! Words, and steps of `walk`.
+//! Words, the empty number, and steps of `walk`.
 use crate::asserting::assert_of;
 use pte::{Access, Ctx, Mode};
 use std::test::Fail;
-use steps::{WalkStep, walk_step, words};
+use steps::{WalkStep, num, walk_step, words};
+
+/// Words stand between blanks and tabs alone, so none is empty.
+#[test]
+fn words_of_texts(rt: HostRuntime) -> Result<(), Fail> {
+    let alloc = rt.alloc();
+    for (text, count) in [
+        ("", 0),
+        (" \t ", 0),
+        ("a", 1),
+        ("\ta  bc\td ", 3),
+        ("a\nb", 1),
+    ] {
+        assert_of(&rt, text, words(alloc, text)?.len() == count);
+    }
+    let words = words(alloc, "\ta  bc\td ")?;
+    assert!(rt;
+        words.as_slice() == [b"a".as_slice(), b"bc".as_slice(), b"d".as_slice()].as_slice()
+    );
+    assert!(rt; num(b"".as_slice()) == None);
+    Ok(())
+}
 
 /// With ample memory a text has its words, however many.
 #[test]
