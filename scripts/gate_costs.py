@@ -9,14 +9,14 @@ prints the processor's minutes, user's and system's, lowest crates first:
 - proofs, with --functions alone, since it is one more check of the crate: `rt check`. It also lists the ten functions whose proofs take
   longest, by the moments at which rt prints that they are proved (one job).
 
-N calls run at a time, 1 if left out: a crate's begins once those of the crates that it uses have ended. With --each-edit it tries each
-edit of a crate alone (`rt must-fail NAME`), and lists the ten dearest.
+N calls run at a time, 1 if left out: a crate's proofs begin once those of the crates that it uses have ended, and edits run when no
+crate's proofs can. With --each-edit it tries each edit of a crate alone (`rt must-fail NAME`), and lists the ten dearest.
 
 What passed is kept on the machine, so each call does what is new alone: on a machine that has kept nothing yet, the sum over all crates
 is what `rt ci` takes from nothing. Of crates that are named the first then has the cost of those below it too. The status is 1 if a call
 failed.
 """
-import os, re, shutil, subprocess, sys, tempfile, threading, time
+import heapq, os, re, shutil, subprocess, sys, tempfile, threading, time
 
 
 def crates(top):
@@ -77,30 +77,64 @@ def function_times(lines):
         before = at
 
 
-class Crate(threading.Thread):
-    """The costs of one crate, found once those that it uses are."""
+class Turns:
+    """So many calls at once; of those that wait the one of least rank comes first."""
 
-    def __init__(self, name, below, costs, turn, options):
+    def __init__(self, free):
+        self.free, self.waiting, self.changed = free, [], threading.Condition()
+
+    def take(self, rank):
+        with self.changed:
+            heapq.heappush(self.waiting, rank)
+            self.changed.wait_for(lambda: self.free and self.waiting[0] == rank)
+            heapq.heappop(self.waiting)
+            self.free -= 1
+            self.changed.notify_all()
+
+    def give(self):
+        with self.changed:
+            self.free += 1
+            self.changed.notify_all()
+
+
+class Crate(threading.Thread):
+    """The costs of one crate, found once those that it uses are proved."""
+
+    def __init__(self, name, place, below, costs, turns, options):
         super().__init__()
-        self.name_of_crate, self.below, self.costs, self.turn, self.options = name, below, costs, turn, options
+        self.name_of_crate, self.place, self.below, self.costs, self.turns, self.options = name, place, below, costs, turns, options
+        self.proved = threading.Event()
         self.edits = edits_of(costs.top, name)
         self.proofs, self.whole, self.tried, self.functions, self.each = None, 0.0, 0.0, [], []
 
     def call(self, edits, *words, folder="."):
-        with self.turn:
+        self.turns.take((self.proved.is_set(), self.place))
+        try:
             clone = self.costs.clone(edits)
             found = self.costs.minutes(clone, *words, folder=folder)
             shutil.rmtree(clone)
+        finally:
+            self.turns.give()
         return found
 
     def run(self):
-        name = self.name_of_crate
         for crate in self.below:
-            crate.join()
+            crate.proved.wait()
+        try:
+            self.prove()
+        finally:
+            self.proved.set()
+        self.try_edits()
+
+    def prove(self):
+        name = self.name_of_crate
         if "--functions" in self.options:
             self.proofs, lines = self.call((), "check", "--jobs", "1", folder=f"crates/{name}")
             self.functions = list(function_times(lines))
         self.whole, _ = self.call((), "ci", name)
+
+    def try_edits(self):
+        name = self.name_of_crate
         if "--each-edit" in self.options:
             for edit in self.edits:
                 spent, _ = self.call({(name, edit)}, "must-fail", "--anew", name)
@@ -131,11 +165,11 @@ def main(words):
         sys.exit(__doc__)
     begun = time.monotonic()
     with tempfile.TemporaryDirectory() as folder:
-        costs, turn, found = Costs(top, folder), threading.Semaphore(at_once), {}
+        costs, turns, found = Costs(top, folder), Turns(at_once), {}
         print("| crate | proofs | proofs, tests, programs | edits | how many |\n|---|---|---|---|---|", flush=True)
-        for name, uses in known.items():
+        for place, (name, uses) in enumerate(known.items()):
             if not named or name in named:
-                found[name] = Crate(name, [found[use] for use in uses if use in found], costs, turn, options)
+                found[name] = Crate(name, place, [found[use] for use in uses if use in found], costs, turns, options)
                 found[name].start()
         for crate in found.values():
             crate.join()
