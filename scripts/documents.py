@@ -5,6 +5,7 @@
   lines. A block whose first line is `# NAME.toml` or `# NAME.trace` is a file of that name for the commands below it on the page.
 - Sources: a block ```rust, ```c or ```antt is a text of one source file, of which `..` stands for what is left out.
 - Links: each file and each heading that a page of the repository links to is there.
+- Help: of each command the wrapper ./svsim and PROGRAM tell the same, and both list the commands alike. PROGRAM has CHANGELOG's version.
 - Sizes: README's words and lines, and the bytes of the pages for users.
 
 The last line is `N passed, M failed`.
@@ -129,6 +130,21 @@ def check_links(page):
         yield there and (not anchor or anchor in anchors(text_of(file))), f"{page}: no {target}"
 
 
+def printed_by(*words):
+    return subprocess.run(words, stdin=subprocess.DEVNULL, capture_output=True, text=True).stdout
+
+
+def check_help(program):
+    wrapper = os.path.join(TOP, "svsim")
+    listed = [printed_by(each, "help").split("\n\n")[:2] for each in (program, wrapper)]
+    yield listed[0] == listed[1], "help: the program and the wrapper list other commands"
+    for command in re.findall(r"(?m)^  (\w+) [A-Z]+ ", listed[0][-1]):
+        told = [printed_by(each, "help", command) for each in (program, wrapper)]
+        yield told[0] == told[1] != "", f"help {command}: the program and the wrapper tell other things"
+    version = re.search(r"(?m)^## ([0-9.]+)", text_of("CHANGELOG.md"))[1]
+    yield printed_by(program, "--version") == f"svsim {version}\n", f"--version: the program's is not CHANGELOG's {version}"
+
+
 def check_sizes(pages):
     readme = text_of("README.md")
     words, lines = len(readme.split()), readme.count("\n")
@@ -147,6 +163,7 @@ def checks(program):
         yield from check_sources(page, sources)
     for page in pages:
         yield from check_links(page)
+    yield from check_help(program)
     yield from check_sizes(pages)
 
 

@@ -53,10 +53,10 @@ impl Call {
             Call::RunLive => "run_live",
             Call::WalkText => "walk_text",
             Call::RunText => "run_text",
-            Call::Stale => "inspect_command Stale",
-            Call::Show => "inspect_command Show",
-            Call::Draw => "inspect_command Draw",
-            Call::Check => "inspect_command Check",
+            Call::Stale => "command Stale",
+            Call::Show => "command Show",
+            Call::Draw => "command Draw",
+            Call::Check => "command Check",
             Call::Watch => "watch_command",
         }
     }

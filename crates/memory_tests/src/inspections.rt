@@ -1,7 +1,7 @@
 //! The commands that say of a file what its replies don't.
 
 use crate::verdict::Verdict;
-use scenario::{Inspection, inspect_command};
+use scenario::{Which, command};
 use std::alloc::Global;
 
 /// A page of 2 MiB that hart 1 holds is unmapped, and hart 1 uses it.
@@ -37,7 +37,7 @@ impl Usual {
 
 /// Does a command on a file. Without memory nothing is printed but by `check`, which may lack it
 /// for the line on standard error alone.
-fn inspect(alloc: Global, inspection: Inspection, file: &str, usual: Usual) -> Verdict {
+fn inspect(alloc: Global, which: Which, file: &str, usual: Usual) -> Verdict {
     let Ok(mut out) = Vec::with_capacity(alloc, ROOM) else {
         return Verdict::NoMemory;
     };
@@ -45,10 +45,10 @@ fn inspect(alloc: Global, inspection: Inspection, file: &str, usual: Usual) -> V
         return Verdict::NoMemory;
     };
     let mut input = file.as_bytes();
-    let status = inspect_command(alloc, inspection, "a file", &mut input, &mut out, &mut err);
+    let status = command(alloc, which, "a file", &mut input, &mut out, &mut err);
     let (out, err) = (out.as_slice(), err.as_slice());
     if status == 5 && err == b"svsim: no memory\n".as_slice() {
-        let printed = inspection == Inspection::Check && usual.is_output(out);
+        let printed = which == Which::Check && usual.is_output(out);
         return if printed || out.is_empty() {
             Verdict::NoMemory
         } else {
@@ -67,7 +67,7 @@ pub fn stale(alloc: Global) -> Verdict {
         last: "\n7 used 1 page 4K:0x5ff000 asid 1 ppn 0x3ff\nstale 1 used 1\n",
         line: "",
     };
-    inspect(alloc, Inspection::Stale, STALE_USED, usual)
+    inspect(alloc, Which::Stale, STALE_USED, usual)
 }
 
 /// The state after the last step.
@@ -78,7 +78,7 @@ pub fn show(alloc: Global) -> Verdict {
         last: "tables of the kernel: in each root\n  511  table 0x80000 level 1 g\n",
         line: "",
     };
-    inspect(alloc, Inspection::Show, STALE_USED, usual)
+    inspect(alloc, Which::Show, STALE_USED, usual)
 }
 
 /// A picture of the run.
@@ -89,7 +89,7 @@ pub fn draw(alloc: Global) -> Verdict {
         last: "</svg>\n",
         line: "",
     };
-    inspect(alloc, Inspection::Draw, STALE_USED, usual)
+    inspect(alloc, Which::Draw, STALE_USED, usual)
 }
 
 /// What is wrong with a file.
@@ -100,5 +100,5 @@ pub fn check(alloc: Global) -> Verdict {
         last: "perhaps load\n1 fault\n",
         line: "svsim: step 2: not a step\n",
     };
-    inspect(alloc, Inspection::Check, FAULTY, usual)
+    inspect(alloc, Which::Check, FAULTY, usual)
 }

@@ -1,33 +1,50 @@
--- How the program ends on words that ask for nothing, or where memory ran out over them.
-use Rattle.std.proofs.Common.{ℕ, List, [], Option, Some, None, Err, IfErr, inl, inr, subst}
+-- How the program ends on words that ask for no file, or where memory ran out over them.
+use Rattle.std.proofs.Common.{◌≡◌, ℕ, List, [], Option, Some, None, IfErr, inl, inr, refl, subst}
 use Rattle.std.specs.Option.{ok_or}
+use Rattle.std.specs.Io.KnownBytes.{Appends, Keeps}
+use Rattle.std.proofs.KnownBytes.{Appends-nil}
 use Rattle.files.specs.declared.fault.Fault.{Fault}
-use Rattle.scenario.specs.declared.trouble.Trouble.{Trouble}
-use Rattle.scenario.specs.declared.trouble.Trouble.TheVariants as troubles
-use Rattle.scenario.specs.Command.{Reports, ending_of, ending_of_fault, misused, no_memory}
-use Rattle.scenario.specs.CommandLine.{AsksFor, Asked, asked}
+use Rattle.files.specs.declared.fault.Fault.TheVariants.{Output}
+use Rattle.scenario.specs.declared.shown.Shown.{Shown}
+use Rattle.scenario.specs.Command.{Reports, done, ending_of_fault, misused, no_memory, output_failed}
+use Rattle.scenario.specs.CommandLine.{Asked}
+use Rattle.scenario.specs.Output.{AppendsFront}
+use Rattle.scenario.specs.Shown.{EndsShown, EndsUnasked}
 
-module _ (s : ℕ) (old new : Option (List ℕ)) (P : Type 0) (kept : P) where
+module _ (s : ℕ) (out_old out_new err_old err_new : Option (List ℕ)) where
   -- the line of want of memory may stand for the usage line
-  if_unasked : (o : Option Asked) → Reports [] no_memory s old new
-      → IfErr (ok_or o misused) (λ ending. Reports [] ending s old new × P)
-  if_unasked (Some ask) r = tt
-  if_unasked None r = (
-    record {
-      told = r.told;
-      is_told = elim r.is_told [ inl e ↦ inr e | inr e ↦ inr e ];
-      status_is = r.status_is;
-      tells = r.tells;
-    },
-    kept,
-  )
+  for_usage : Reports [] no_memory s err_old err_new → Reports [] misused s err_old err_new
+  for_usage r = record {
+    told = r.told;
+    is_told = elim r.is_told [ inl e ↦ inr e | inr e ↦ inr e ];
+    status_is = r.status_is;
+    tells = r.tells;
+  }
 
-  pub unasked : (words : List (List ℕ)) (trouble : Trouble) → AsksFor words (Err trouble) → Reports [] (ending_of trouble) s old new
-      → IfErr (ok_or (asked words) misused) (λ ending. Reports [] ending s old new × P)
-  unasked words troubles.Usage asks r = rw asks (r, kept)
-  unasked words troubles.Unreadable asks r = absurd asks
-  unasked words troubles.TooLarge asks r = absurd asks
-  unasked words troubles.NoThread asks r = absurd asks
-  unasked words (troubles.Line number) asks r = absurd asks
-  unasked words (troubles.Refused fault) asks r =
-      if_unasked (asked words) (subst (λ (f : Fault). Reports [] (ending_of_fault f) s old new) asks r)
+  without_memory : (what : Option Shown) → Keeps out_old out_new → Reports [] no_memory s err_old err_new → EndsUnasked what misused s out_old out_new err_old err_new
+  without_memory None kept r = (for_usage r, kept)
+  without_memory (Some shown) kept r = inr (r, kept)
+
+  -- memory ran out
+  pub unasked : (found : Option Asked) (what : Option Shown) → Keeps out_old out_new → Reports [] no_memory s err_old err_new
+      → IfErr (ok_or found misused) (λ ending. EndsUnasked what ending s out_old out_new err_old err_new)
+  unasked (Some ask) what kept r = tt
+  unasked None what kept r = without_memory what kept r
+
+  -- what was to be shown was written, or not
+  pub shown_failed : (fault : Fault) (text : List ℕ) → fault ≡ Output → AppendsFront out_old out_new text → Reports [] (ending_of_fault fault) s err_old err_new
+      → EndsShown s out_old out_new err_old err_new
+  shown_failed fault text is written r = record {
+    ending = output_failed;
+    is = inr refl;
+    leaves = (text, tt, written);
+    reports = subst (λ (f : Fault). Reports [] (ending_of_fault f) s err_old err_new) is r;
+  }
+
+pub shown_done : (text : List ℕ) (out_old out_new err : Option (List ℕ)) → Appends out_old out_new text → EndsShown 0 out_old out_new err err
+shown_done text out_old out_new err written = record {
+  ending = done;
+  is = inl refl;
+  leaves = (text, tt, written);
+  reports = record { told = done; is_told = refl; status_is = refl; tells = (0, Appends-nil err) };
+}

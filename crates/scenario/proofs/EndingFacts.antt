@@ -3,8 +3,8 @@ use Rattle.std.proofs.Common.{◌≡◌, ℕ, zero, suc, ◌⊎◌, Bool, true, 
 use Rattle.std.proofs.lemmas.Bool.{true≢false}
 use Rattle.files.specs.declared.fault.Fault.TheVariants as faults
 use Rattle.files.specs.Faults.{Failure, not_toml, bad_layout, too_many}
-use Rattle.scenario.specs.declared.program.Job.{Job}
-use Rattle.scenario.specs.Command.{Ending, done, stale_used, explained, misused, unreadable, too_large, refused, output_failed, no_memory, no_thread, warned, wrong_line, error_line, failure_status, file_fault, FileLines, IsToldAs, Leaves, Reports, status_of, Suits}
+use Rattle.scenario.specs.Command.{Ending, done, stale_used, explained, misused, unreadable, too_large, refused, output_failed, no_memory, no_thread, warned, wrong_line, error_line, failure_status, file_fault, IsToldAs, Leaves, Reports, status_of, Suits}
+use Rattle.scenario.specs.Commands.{Meaning}
 use Rattle.scenario.specs.Output.{AppendsFront, EndsBy, WritesAll}
 use Rattle.scenario.specs.WorkedFiles.{IsOkLine}
 
@@ -21,10 +21,10 @@ not_0 _ is = omega (arith, is)
 line_is : (file : List ℕ) (old new : Option (List ℕ)) (told ending : Ending) → told ≡ ending → AppendsFront old new (error_line file told) → AppendsFront old new (error_line file ending)
 line_is file old new told ending is tells = subst (λ e. AppendsFront old new (error_line file e)) is tells
 
-module _ (job : Job) (file bytes : List ℕ) (out_old out_new err_old err_new : Option (List ℕ)) where
-  pub done_by : (ending told : Ending) → Suits job bytes ending → Leaves (FileLines job bytes) ending out_old out_new → IsToldAs ending told → 0 ≡ status_of told
+module _ (meaning : Meaning) (file bytes : List ℕ) (out_old out_new err_old err_new : Option (List ℕ)) where
+  pub done_by : (ending told : Ending) → Suits meaning bytes ending → Leaves (meaning.Lines bytes) ending out_old out_new → IsToldAs ending told → 0 ≡ status_of told
       → AppendsFront err_old err_new (error_line file told)
-      → (file_fault job bytes ≡ None) × WritesAll (FileLines job bytes) out_old out_new × AppendsFront err_old err_new []
+      → (file_fault meaning bytes ≡ None) × WritesAll (meaning.Lines bytes) out_old out_new × AppendsFront err_old err_new []
   done_by done told suits leaves is status tells = (suits.1, leaves, line_is file err_old err_new told done is tells)
   done_by stale_used told suits leaves is status tells = let other = status ∙ ap status_of is in absurd (omega (arith, other))
   done_by (explained failure) told suits leaves is status tells = absurd (no_status 0 (explained failure) told (not_0 failure) (λ e. omega (arith, e)) is status)
@@ -38,21 +38,21 @@ module _ (job : Job) (file bytes : List ℕ) (out_old out_new err_old err_new : 
   done_by warned told suits leaves is status tells = absurd suits
   done_by (wrong_line number) told suits leaves is status tells = absurd suits
 
-  of_failure : (failure : Failure) (ending told : Ending) → error_line file ending ≡ error_line file (refused failure) → file_fault job bytes ≡ Some failure → (told ≡ ending) ⊎ (told ≡ no_memory)
+  of_failure : (failure : Failure) (ending told : Ending) → error_line file ending ≡ error_line file (refused failure) → file_fault meaning bytes ≡ Some failure → (told ≡ ending) ⊎ (told ≡ no_memory)
       → 3 ≡ status_of told → AppendsFront err_old err_new (error_line file told)
-      → (f : Failure) × (file_fault job bytes ≡ Some f) × AppendsFront err_old err_new (error_line file (refused f))
+      → (f : Failure) × (file_fault meaning bytes ≡ Some f) × AppendsFront err_old err_new (error_line file (refused f))
   of_failure failure ending told same is (inl at) status tells = (failure, is, subst (AppendsFront err_old err_new) (ap (error_line file) at ∙ same) tells)
   of_failure failure ending told same is (inr at) status tells = let other = status ∙ ap status_of at in absurd (omega (arith, other))
 
-  pub refused_by : (ending told : Ending) → Suits job bytes ending → IsToldAs ending told → 3 ≡ status_of told → AppendsFront err_old err_new (error_line file told)
-      → (f : Failure) × (file_fault job bytes ≡ Some f) × AppendsFront err_old err_new (error_line file (refused f))
+  pub refused_by : (ending told : Ending) → Suits meaning bytes ending → IsToldAs ending told → 3 ≡ status_of told → AppendsFront err_old err_new (error_line file told)
+      → (f : Failure) × (file_fault meaning bytes ≡ Some f) × AppendsFront err_old err_new (error_line file (refused f))
   refused_by done told suits is status tells = let other = status ∙ ap status_of is in absurd (omega (arith, other))
   refused_by stale_used told suits is status tells = let other = status ∙ ap status_of is in absurd (omega (arith, other))
   refused_by (explained failure) told suits is status tells = of_failure failure (explained failure) told refl suits.2 is status tells
   refused_by misused told suits is status tells = absurd suits
   refused_by unreadable told suits is status tells = absurd (no_status 3 unreadable told (λ e. omega (arith, e)) (λ e. omega (arith, e)) is status)
   refused_by too_large told suits is status tells = absurd (no_status 3 too_large told (λ e. omega (arith, e)) (λ e. omega (arith, e)) is status)
-  refused_by (refused failure) told suits is status tells = of_failure failure (refused failure) told refl suits.1 is status tells
+  refused_by (refused failure) told suits is status tells = of_failure failure (refused failure) told refl suits.2 is status tells
   refused_by output_failed told suits is status tells = absurd (no_status 3 output_failed told (λ e. omega (arith, e)) (λ e. omega (arith, e)) is status)
   refused_by no_memory told suits is status tells = absurd (no_status 3 no_memory told (λ e. omega (arith, e)) (λ e. omega (arith, e)) is status)
   refused_by no_thread told suits is status tells = absurd (no_status 3 no_thread told (λ e. omega (arith, e)) (λ e. omega (arith, e)) is status)

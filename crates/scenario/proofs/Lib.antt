@@ -6,7 +6,7 @@ pub mod RunLemmas
 pub mod AskLemmas
 pub mod TroubleLemmas
 pub mod WordLemmas
-pub mod InspectionLemmas
+pub mod OutcomeLemmas
 pub mod StaleLemmas
 mod PrintFacts
 mod EndingFacts

@@ -1,8 +1,6 @@
 -- What is printed of files that are written out.
 use Rattle.std.proofs.Common.{◌≡◌, ◌↔◌, ℕ, codes, Result, Ok, Err, List, [], ◌∙◌, false, refl, subst, sym, arith}
 use Rattle.std.specs.Fmt.{digits}
-use Rattle.std.specs.Str.{IsUtf8}
-use Rattle.std.proofs.lemmas.Str.{is_utf8-from_IsUtf8}
 use Rattle.toml.proofs.OnLiterals.{toml_on_literals}
 use Rattle.pte.specs.declared.permission.Access.TheVariants.{Load}
 use Rattle.pte.specs.declared.permission.Mode.TheVariants.{User}
@@ -19,11 +17,9 @@ use Rattle.shoot.specs.HartSet.{byte_of, difference}
 use Rattle.lines.proofs.LineLemmas.{one_lines}
 use Rattle.files.specs.Faults.{Failure}
 use Rattle.files.specs.Settings.{config_at}
-use Rattle.files.specs.RunFile.{RunPlan, run_file, run_plan_of, run_scenario_of}
-use Rattle.files.specs.WalkFile.{WalkPlan, walk_file, walk_plan_of, walk_scenario_of}
-use Rattle.scenario.specs.declared.program.Job.TheVariants.{Plain}
-use Rattle.scenario.specs.declared.program.Which.TheVariants.{Run, Walk}
-use Rattle.scenario.specs.Command.{FileLines}
+use Rattle.files.specs.RunFile.{RunPlan, run_plan_of, run_scenario_of}
+use Rattle.files.specs.WalkFile.{WalkPlan, walk_plan_of, walk_scenario_of}
+use Rattle.scenario.specs.Commands.{run, walk}
 use Rattle.scenario.specs.Prints.{LinesOf, Prints, PrintsReplies}
 use Rattle.scenario.specs.WorkedFiles.{layout_text, run_text, walk_text}
 
@@ -39,38 +35,19 @@ one_run (Err e) a b p q = p ∙ sym q
 both : (Printed : List ℕ → Type 0) (line : List ℕ) → Printed line → ((a b : List ℕ) → Printed a → Printed b → a ≡ b) → (lines : List ℕ) → Printed lines ↔ (lines ≡ line)
 both Printed line printed one lines = (λ p. one lines line p printed, λ is. subst Printed (sym is) printed)
 
--- the texts are UTF-8
-run_is_utf8 : IsUtf8 run_text
-unfolding lib.Utf8.encode
-run_is_utf8 = (run_text, (refl, refl))
-
-layout_is_utf8 : IsUtf8 layout_text
-unfolding lib.Utf8.encode
-layout_is_utf8 = (layout_text, (refl, refl))
-
-walk_is_utf8 : IsUtf8 walk_text
-unfolding lib.Utf8.encode
-walk_is_utf8 = (walk_text, (refl, refl))
-
-read_run : (text : List ℕ) → IsUtf8 text → (line : List ℕ) → LinesOf PrintsReplies (run_scenario_of text) line → FileLines (Plain Run) text line
-read_run text utf8 line printed = rw (is_utf8-from_IsUtf8 text utf8) printed
-
-read_walk : (text : List ℕ) → IsUtf8 text → (line : List ℕ) → LinesOf Prints (walk_scenario_of text) line → FileLines (Plain Walk) text line
-read_walk text utf8 line printed = rw (is_utf8-from_IsUtf8 text utf8) printed
-
 run_lines : LinesOf PrintsReplies (run_scenario_of run_text) (codes "1 leaf\n2 more\n3 fill 0x80001234\n4 hit 0x80001234\n5 opened 0\n")
 unfolding toml_on_literals run_scenario_of run_plan_of config_at is_within_limits kind_of wish_fault path_end edit_of byte_of difference digits
 run_lines = refl
 
-pub run_prints : (lines : List ℕ) → FileLines (Plain Run) run_text lines ↔ (lines ≡ codes "1 leaf\n2 more\n3 fill 0x80001234\n4 hit 0x80001234\n5 opened 0\n")
-run_prints = both (FileLines (Plain Run) run_text) _ (read_run run_text run_is_utf8 _ run_lines) (one_run (run_file run_text))
+pub run_prints : (lines : List ℕ) → run.Lines run_text lines ↔ (lines ≡ codes "1 leaf\n2 more\n3 fill 0x80001234\n4 hit 0x80001234\n5 opened 0\n")
+run_prints = both (run.Lines run_text) _ run_lines (one_run (run_scenario_of run_text))
 
 no_lines : LinesOf PrintsReplies (run_scenario_of layout_text) []
 unfolding toml_on_literals run_scenario_of run_plan_of config_at is_within_limits
 no_lines = refl
 
-pub faulty_prints : (lines : List ℕ) → FileLines (Plain Run) layout_text lines ↔ (lines ≡ [])
-faulty_prints = both (FileLines (Plain Run) layout_text) _ (read_run layout_text layout_is_utf8 _ no_lines) (one_run (run_file layout_text))
+pub faulty_prints : (lines : List ℕ) → run.Lines layout_text lines ↔ (lines ≡ [])
+faulty_prints = both (run.Lines layout_text) _ no_lines (one_run (run_scenario_of layout_text))
 
 -- the walk of the one access takes three loads
 walk_line : LinesOf Prints (walk_scenario_of walk_text) (codes "1 pa 0x12345abc 4K\n")
@@ -84,5 +61,5 @@ walk_line = (
   refl,
 )
 
-pub walk_prints : (lines : List ℕ) → FileLines (Plain Walk) walk_text lines ↔ (lines ≡ codes "1 pa 0x12345abc 4K\n")
-walk_prints = both (FileLines (Plain Walk) walk_text) _ (read_walk walk_text walk_is_utf8 _ walk_line) (one_walk (walk_file walk_text))
+pub walk_prints : (lines : List ℕ) → walk.Lines walk_text lines ↔ (lines ≡ codes "1 pa 0x12345abc 4K\n")
+walk_prints = both (walk.Lines walk_text) _ walk_line (one_walk (walk_scenario_of walk_text))

@@ -1,5 +1,5 @@
 -- Whether a stale mapping is used, by what is reported of a run.
-use Rattle.std.proofs.Common.{◌≡◌, ◌∙◌, ℕ, zero, suc, ◌<◌, Bool, true, false, List, [], ◌∷◌, Result, Ok, inl, inr, ap, sym, refl, arith}
+use Rattle.std.proofs.Common.{◌≡◌, ◌∙◌, ℕ, zero, suc, ◌<◌, Bool, true, false, List, [], ◌∷◌, Ok, inl, inr, ap, sym, refl, arith}
 use Rattle.std.specs.Prelude.{◌↔◌, IsTrue, Contains}
 use Rattle.std.proofs.lemmas.Bool.{cases_Bool, true≢false}
 use Rattle.walk.specs.Maps.{page_number}
@@ -14,9 +14,9 @@ use Rattle.stale.specs.declared.items.StaleItem.TheVariants.{Became, Used}
 use Rattle.stale.specs.Told.{TellsUse, UsedBy}
 use Rattle.scenario.specs.Printed.{Prints}
 use Rattle.scenario.specs.StaleLines.{is_use, uses_in}
-use Rattle.files.specs.Faults.{Failure}
-use Rattle.files.specs.RunFile.{RunPlan}
-use Rattle.scenario.specs.Inspections.{finding_by_use, IsStaleFound}
+use Rattle.files.specs.RunFile.{RunPlan, run_scenario_of}
+use Rattle.scenario.specs.Commands.{stale}
+use Rattle.scenario.specs.Outcomes.{finding_by_use, IsFound}
 
 -- an item that is a use, and one that reports a use
 use_in : (item : StaleItem) → is_use item ≡ true → (use_ : StaleUse) × (item ≡ Used use_)
@@ -67,7 +67,7 @@ used_so C events lines used p = (
 )
 
 -- so much is found of a scenario without fault
-pub stale_so : (read : Result RunPlan Failure) (plan : RunPlan) (lines : List ℕ) (used : Bool) → read ≡ Ok plan → Prints (setup_of plan.config) plan.events lines used
-    → IsStaleFound read lines (finding_by_use used)
-stale_so read plan lines true is p = rw is (refl, (true, p), (used_so (setup_of plan.config) plan.events lines true p).0 refl)
-stale_so read plan lines false is p = rw is (refl, (false, p), λ uses. true≢false (sym ((used_so (setup_of plan.config) plan.events lines false p).1 uses)))
+pub stale_so : (text : List ℕ) (plan : RunPlan) (lines : List ℕ) (used : Bool) → run_scenario_of text ≡ Ok plan → Prints (setup_of plan.config) plan.events lines used
+    → IsFound stale text lines (finding_by_use used)
+stale_so text plan lines true is p = rw is (refl, (true, p), (used_so (setup_of plan.config) plan.events lines true p).0 refl)
+stale_so text plan lines false is p = rw is (refl, (false, p), λ uses. true≢false (sym ((used_so (setup_of plan.config) plan.events lines false p).1 uses)))

@@ -1,85 +1,28 @@
 -- How a command ends, by its status.
-use Rattle.std.specs.Prelude.{◌≡◌, ℕ, ◌<◌, ◌≤◌, ◌⊎◌, ◌++◌, List, [], length, codes, string_bytes, Option, Some, None, Result, Ok, Err, if◌then◌else◌}
+use Rattle.std.specs.Prelude.{◌≡◌, ℕ, ◌<◌, ◌≤◌, ◌⊎◌, ◌++◌, List, [], length, codes, string_bytes, Option, Some, None, if◌then◌else◌}
 use Rattle.std.specs.Fmt.{decimal}
 use Rattle.std.specs.Io.KnownBytes.{Keeps}
-use Rattle.scenario.specs.declared.program.Which.TheVariants.{Walk, Run}
-use Rattle.scenario.specs.declared.program.Job.{Job}
-use Rattle.scenario.specs.declared.program.Job.TheVariants.{Plain, Live, Inspect}
-use Rattle.scenario.specs.declared.program.Inspection.{Inspection}
-use Rattle.scenario.specs.declared.program.Inspection.TheVariants.{Stale, Show, Draw, Check}
 use Rattle.scenario.specs.declared.trouble.Trouble.{Trouble}
 use Rattle.scenario.specs.declared.trouble.Trouble.TheVariants as troubles
 use Rattle.files.specs.declared.fault.Fault.{Fault}
 use Rattle.files.specs.declared.fault.Fault.TheVariants as faults
-use Rattle.files.specs.Faults.{Failure, not_toml, wrong_key, bad_layout, too_many, wrong_step, wrong_script, failure_text, fault_in}
-use Rattle.scenario.specs.Prints.{LinesOf, Prints, PrintsLive, PrintsReplies, PrintsStale, PrintsState, TellsFaults, UsesOf}
+use Rattle.files.specs.Faults.{Failure, not_toml, wrong_key, bad_layout, too_many, wrong_step, wrong_script, failure_text}
+use Rattle.scenario.specs.Commands.{Meaning}
 use Rattle.scenario.specs.Output.{AppendsFront, WritesAll, WritesFront}
-use Rattle.scenario.specs.Input.{AreLeft}
 use Rattle.scenario.specs.Limits.{most_bytes}
-use Rattle.files.specs.WalkFile.{walk_file}
-use Rattle.files.specs.RunFile.{run_file}
-use Rattle.files.specs.LiveFile.{live_file}
-use Rattle.checks.specs.Told.{fault_of}
-use Rattle.std.specs.Str.{is_utf8}
+use Rattle.std.specs.Str.{IsUtf8, is_utf8}
 
--- the first fault of a file's bytes, if they have one
-abbrev pub inspected_fault : Inspection → List ℕ → Option Failure
-inspected_fault Stale bytes = fault_in (run_file bytes)
-inspected_fault Show bytes = fault_in (run_file bytes)
-inspected_fault Draw bytes = fault_in (run_file bytes)
-inspected_fault Check bytes = if is_utf8 bytes then fault_of bytes else Some not_toml
+-- the first fault of a file's bytes, if they have one: they are not UTF-8, or their text's
+abbrev pub file_fault : Meaning → List ℕ → Option Failure
+file_fault meaning bytes = if is_utf8 bytes then meaning.fault bytes else Some not_toml
 
-abbrev pub file_fault : Job → List ℕ → Option Failure
-file_fault (Plain Walk) bytes = fault_in (walk_file bytes)
-file_fault (Plain Run) bytes = fault_in (run_file bytes)
-file_fault Live bytes = fault_in (live_file bytes)
-file_fault (Inspect inspection) bytes = inspected_fault inspection bytes
+-- whether it is said what is wrong with a faulty file, and not only its first fault
+abbrev pub IsExplained : Meaning → List ℕ → Type 0
+IsExplained meaning bytes = meaning.Explains × IsUtf8 bytes
 
--- what is printed of a file; of a picture no clause says which text it is
-abbrev pub InspectedLines : Inspection → List ℕ → List ℕ → Type 0
-InspectedLines Stale bytes = LinesOf PrintsStale (run_file bytes)
-InspectedLines Show bytes = LinesOf PrintsState (run_file bytes)
-InspectedLines Draw bytes = λ lines. Unit {0}
-InspectedLines Check bytes = TellsFaults bytes (inspected_fault Check bytes)
-
-abbrev pub FileLines : Job → List ℕ → List ℕ → Type 0
-FileLines (Plain Walk) bytes = LinesOf Prints (walk_file bytes)
-FileLines (Plain Run) bytes = LinesOf PrintsReplies (run_file bytes)
-FileLines Live bytes = LinesOf PrintsLive (live_file bytes)
-FileLines (Inspect inspection) bytes = InspectedLines inspection bytes
-
--- whether it starts threads
-abbrev pub StartsThreads : Job → Type 0
-StartsThreads (Plain which) = ⊥
-StartsThreads Live = Unit {0}
-StartsThreads (Inspect inspection) = ⊥
-
--- whether it says what is wrong with a faulty file, and not only its first fault
-abbrev pub Explains : Job → Type 0
-Explains (Inspect Stale) = ⊥
-Explains (Inspect Show) = ⊥
-Explains (Inspect Draw) = ⊥
-Explains (Inspect Check) = Unit {0}
-Explains (Plain which) = ⊥
-Explains Live = ⊥
-
--- whether there is something to print: of a faulty file, for `check` alone
-abbrev pub IsPrinted : Job → List ℕ → Type 0
-IsPrinted (Plain which) bytes = file_fault (Plain which) bytes ≡ None
-IsPrinted Live bytes = file_fault Live bytes ≡ None
-IsPrinted (Inspect Stale) bytes = inspected_fault Stale bytes ≡ None
-IsPrinted (Inspect Show) bytes = inspected_fault Show bytes ≡ None
-IsPrinted (Inspect Draw) bytes = inspected_fault Draw bytes ≡ None
-IsPrinted (Inspect Check) bytes = Unit {0}
-
--- whether its status says that stale mappings were used, and they were
-abbrev pub FindsUses : Job → List ℕ → Type 0
-FindsUses (Inspect Stale) bytes = UsesOf (run_file bytes)
-FindsUses (Inspect Show) bytes = ⊥
-FindsUses (Inspect Draw) bytes = ⊥
-FindsUses (Inspect Check) bytes = ⊥
-FindsUses (Plain which) bytes = ⊥
-FindsUses Live bytes = ⊥
+-- whether there is something to print
+abbrev pub IsPrinted : Meaning → List ℕ → Type 0
+IsPrinted meaning bytes = (file_fault meaning bytes ≡ None) ⊎ IsExplained meaning bytes
 
 pub data Ending : Type 0 where
   done : Ending
@@ -141,24 +84,24 @@ IsTold ending status line = (status_of ending ≡ status) × (error_line (codes 
 
 -- when a file of these bytes may end so; any may be unreadable or find no memory, and a faultless
 -- one for `live` no thread
-abbrev pub Suits : Job → List ℕ → Ending → Type 0
-Suits job bytes done = (length bytes ≤ most_bytes) × (file_fault job bytes ≡ None)
-    × ¬ FindsUses job bytes
-Suits job bytes stale_used = (length bytes ≤ most_bytes) × (file_fault job bytes ≡ None)
-    × FindsUses job bytes
-Suits job bytes (explained failure) = Explains job × (length bytes ≤ most_bytes)
-    × (file_fault job bytes ≡ Some failure)
-Suits job bytes misused = ⊥
-Suits job bytes unreadable = Unit {0}
-Suits job bytes too_large = most_bytes < length bytes
-Suits job bytes (refused failure) = (length bytes ≤ most_bytes)
-    × (file_fault job bytes ≡ Some failure)
-Suits job bytes output_failed = (length bytes ≤ most_bytes) × IsPrinted job bytes
-Suits job bytes no_memory = Unit {0}
-Suits job bytes no_thread = StartsThreads job × (length bytes ≤ most_bytes)
-    × (file_fault job bytes ≡ None)
-Suits job bytes warned = ⊥
-Suits job bytes (wrong_line number) = ⊥
+abbrev pub Suits : Meaning → List ℕ → Ending → Type 0
+Suits meaning bytes done = (length bytes ≤ most_bytes) × (file_fault meaning bytes ≡ None)
+    × ¬ meaning.FindsUses bytes
+Suits meaning bytes stale_used = (length bytes ≤ most_bytes) × (file_fault meaning bytes ≡ None)
+    × meaning.FindsUses bytes
+Suits meaning bytes (explained failure) = IsExplained meaning bytes × (length bytes ≤ most_bytes)
+    × (file_fault meaning bytes ≡ Some failure)
+Suits meaning bytes misused = ⊥
+Suits meaning bytes unreadable = Unit {0}
+Suits meaning bytes too_large = most_bytes < length bytes
+Suits meaning bytes (refused failure) = ¬ IsExplained meaning bytes × (length bytes ≤ most_bytes)
+    × (file_fault meaning bytes ≡ Some failure)
+Suits meaning bytes output_failed = (length bytes ≤ most_bytes) × IsPrinted meaning bytes
+Suits meaning bytes no_memory = Unit {0}
+Suits meaning bytes no_thread = meaning.StartsThreads × (length bytes ≤ most_bytes)
+    × (file_fault meaning bytes ≡ None)
+Suits meaning bytes warned = ⊥
+Suits meaning bytes (wrong_line number) = ⊥
 
 -- what was written of the lines: all, a beginning, or nothing
 abbrev pub Leaves : (List ℕ → Type 0) → Ending → Option (List ℕ) → Option (List ℕ) → Type 0
@@ -169,10 +112,10 @@ Leaves Lines output_failed old new = WritesFront Lines old new
 Leaves Lines _ old new = Keeps old new
 
 -- the file may end so, and this is what it leaves
-pub record EndsAs (job : Job) (bytes : List ℕ) (ending : Ending)
+pub record EndsAs (meaning : Meaning) (bytes : List ℕ) (ending : Ending)
     (old new : Option (List ℕ)) : Type 0 where
-  pub suits : Suits job bytes ending
-  pub leaves : Leaves (FileLines job bytes) ending old new
+  pub suits : Suits meaning bytes ending
+  pub leaves : Leaves (meaning.Lines bytes) ending old new
 
 -- what is reported of an ending: itself, or that there was no memory for its line, if it has one
 abbrev pub IsToldAs : Ending → Ending → Type 0
@@ -191,10 +134,10 @@ pub record Reports (file : List ℕ) (ending : Ending) (status : ℕ)
 
 -- how a command ends on a file of these bytes: one ending gives the output, the status and the line
 -- on standard error
-pub record Ends (job : Job) (file bytes : List ℕ) (status : ℕ)
+pub record Ends (meaning : Meaning) (file bytes : List ℕ) (status : ℕ)
     (out_old out_new err_old err_new : Option (List ℕ)) : Type 0 where
   pub ending : Ending
-  pub ends_as : EndsAs job bytes ending out_old out_new
+  pub ends_as : EndsAs meaning bytes ending out_old out_new
   pub reports : Reports file ending status err_old err_new
 
 -- ---- how the code's troubles stand for endings
@@ -216,8 +159,3 @@ ending_of troubles.TooLarge = too_large
 ending_of troubles.NoThread = no_thread
 ending_of (troubles.Line number) = wrong_line number
 ending_of (troubles.Refused fault) = ending_of_fault fault
-
--- how it ended, by what a function returned
-abbrev pub ending_in : {X : Type 0} → Result X Trouble → Ending
-ending_in (Ok x) = done
-ending_in (Err trouble) = ending_of trouble

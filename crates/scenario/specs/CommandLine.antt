@@ -8,52 +8,27 @@ use Rattle.std.specs.declared.io.ErrorKind.TheVariants as kinds
 use Rattle.clap.specs.Words.{App, Row, Rule, fault_of, first_of, matches_of, new_app, new_rule, with_rule}
 use Rattle.clap.specs.Simple.{on_top}
 use Rattle.clap.specs.Walk.{is_empty}
-use Rattle.clap.specs.declared.error.kind.ErrorKind.{ErrorKind as ClapErrorKind}
-use Rattle.clap.specs.declared.error.kind.ErrorKind.TheVariants as clap_kinds
 use Rattle.files.specs.declared.fault.Fault.TheVariants.{NoMemory}
-use Rattle.scenario.specs.declared.program.Job.{Job}
-use Rattle.scenario.specs.declared.program.Job.TheVariants.{Plain, Live, Inspect}
-use Rattle.scenario.specs.declared.program.Task.{Task}
-use Rattle.scenario.specs.declared.program.Task.TheVariants.{Watch, Whole}
-use Rattle.scenario.specs.declared.program.Inspection.{Inspection}
-use Rattle.scenario.specs.declared.program.Inspection.TheVariants.{Stale, Show, Draw, Check}
-use Rattle.scenario.specs.declared.program.Which.TheVariants.{Walk, Run}
 use Rattle.scenario.specs.declared.command_line.Ask.{Ask}
 use Rattle.scenario.specs.declared.command_line.NoWords.{NoWords}
 use Rattle.scenario.specs.declared.command_line.NoWords.TheVariants as none
 use Rattle.scenario.specs.declared.trouble.Trouble.{Trouble}
 use Rattle.scenario.specs.declared.trouble.Trouble.TheVariants.{Usage, Refused}
+use Rattle.scenario.specs.declared.commands.Command.{Command}
 use Rattle.scenario.specs.Command.{Ending, misused, no_memory}
+use Rattle.scenario.specs.Commands.{command_of}
 
 -- a command, and the name of the file that it reads
 pub record Asked : Type 0 where
-  pub task : Task
+  pub command : Command
   pub file : List ℕ
 
 abbrev pub ask_view : Ask → Asked
-ask_view ask = record { task = ask.task; file = ask.file.now }
-
-abbrev pub inspection_of : List ℕ → Option Inspection
-inspection_of word =
-    if bytes_eq word (codes "stale") then Some Stale
-    else if bytes_eq word (codes "show") then Some Show
-    else if bytes_eq word (codes "draw") then Some Draw
-    else if bytes_eq word (codes "check") then Some Check
-    else None
-
-abbrev pub job_of : List ℕ → Option Job
-job_of word =
-    if bytes_eq word (codes "walk") then Some (Plain Walk)
-    else if bytes_eq word (codes "run") then Some (Plain Run)
-    else if bytes_eq word (codes "live") then Some Live
-    else option_map Inspect (inspection_of word)
-
-abbrev pub task_of : List ℕ → Option Task
-task_of word =
-    if bytes_eq word (codes "watch") then Some Watch else option_map Whole (job_of word)
+ask_view ask = record { command = ask.command; file = ask.file.now }
 
 abbrev pub asked_by : List ℕ → List ℕ → Option Asked
-asked_by word file = option_map (λ task. record { task = task; file = file }) (task_of word)
+asked_by word file =
+    option_map (λ command. record { command = command; file = file }) (command_of word)
 
 -- ---- what clap takes
 
@@ -106,10 +81,6 @@ asked_of_values (Some (word ∷ file ∷ [])) = asked_by word file
 asked_of_values _ = None
 
 -- ---- what the code makes of them
-
-abbrev pub trouble_by : ClapErrorKind → Trouble
-trouble_by clap_kinds.OutOfMemory = Refused NoMemory
-trouble_by _ = Usage
 
 -- what the words ask for, or that they ask for nothing; or memory ran out
 abbrev pub AsksFor : List (List ℕ) → Result Ask Trouble → Type 0

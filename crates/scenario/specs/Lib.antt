@@ -5,9 +5,11 @@ pub mod Limits
 pub mod Prints
 pub mod Output
 pub mod Input
+pub mod Commands
 pub mod Command
 pub mod Watches
 pub mod EndsOn
 pub mod CommandLine
-pub mod Inspections
+pub mod Shown
+pub mod Outcomes
 pub mod WorkedFiles

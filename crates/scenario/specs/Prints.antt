@@ -9,10 +9,7 @@ use Rattle.history.specs.Setup.{setup_of}
 use Rattle.lines.specs.AnswerLines.{WritesLines}
 use Rattle.scenario.specs.LiveLines.{live_lines}
 use Rattle.lines.specs.ReplyLines.{reply_lines}
-use Rattle.files.specs.Faults.{Failure, Fails, fault_in}
-use Rattle.files.specs.declared.fault.Fault.TheVariants.{NoMemory}
-use Rattle.scenario.specs.declared.trouble.Trouble.{Trouble}
-use Rattle.scenario.specs.declared.trouble.Trouble.TheVariants.{Usage, Unreadable, TooLarge, NoThread, Line, Refused}
+use Rattle.files.specs.Faults.{Failure}
 use Rattle.files.specs.LiveFile.{LivePlan}
 use Rattle.files.specs.RunFile.{RunPlan}
 use Rattle.files.specs.WalkFile.{WalkPlan}
@@ -57,25 +54,6 @@ pub record PrintsLive (plan : LivePlan) (lines : List ℕ) : Type 0 where
 abbrev pub LinesOf : {P : Type 0} → (P → List ℕ → Type 0) → Result P Failure → List ℕ → Type 0
 LinesOf prints (Ok plan) lines = prints plan lines
 LinesOf prints (Err e) lines = lines ≡ []
-
--- why a run has no answers
-abbrev pub IsUnstarted : Trouble → Type 0
-IsUnstarted Usage = ⊥
-IsUnstarted Unreadable = ⊥
-IsUnstarted TooLarge = ⊥
-IsUnstarted NoThread = Unit {0}
-IsUnstarted (Line number) = ⊥
-IsUnstarted (Refused fault) = fault ≡ NoMemory
-
--- why a file for `live` that was read as this prints nothing: its first fault, no memory, or no
--- thread
-abbrev pub IsUnprinted : {P : Type 0} → Trouble → Result P Failure → Type 0
-IsUnprinted Usage read = ⊥
-IsUnprinted Unreadable read = ⊥
-IsUnprinted TooLarge read = ⊥
-IsUnprinted NoThread read = fault_in read ≡ None
-IsUnprinted (Line number) read = ⊥
-IsUnprinted (Refused fault) read = Fails fault read
 
 -- what `stale` prints: lines of the mappings that become stale and of the accesses that a stale one
 -- answers, in the order of the steps

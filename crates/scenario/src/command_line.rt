@@ -5,17 +5,21 @@ ghost use Rattle.std.specs.Io.KnownBytes.{Keeps};
 ghost use Rattle.std.specs.IoError.{error_kind};
 ghost use Rattle.scenario.specs.declared.command_line.NoWords.TheVariants.{NoMemory};
 ghost use Rattle.clap.specs.Words.{first_value, found_of};
-ghost use Rattle.scenario.specs.Command.{Reports, no_memory};
+ghost use Rattle.scenario.specs.Command.{Reports, misused, no_memory};
 ghost use Rattle.scenario.specs.EndsOn.{EndsOn};
-ghost use Rattle.scenario.specs.CommandLine.{AsksFor, ask_view, asked_in, asked_of, inspection_of, job_of, no_words_by, task_of};
+ghost use Rattle.scenario.specs.Shown.{EndsUnasked, shown, shown_in};
+ghost use Rattle.scenario.specs.CommandLine.{AsksFor, ask_view, asked, asked_in, asked_of, no_words_by};
 
-use crate::inspect_program::inspect_command;
+use crate::commands::{Command, command_of};
 use crate::live_program::live_command;
-use crate::program::{Inspection, Job, Task, Which, command, report};
+use crate::output::write_whole;
+use crate::program::{DONE, command, report};
+use crate::shown::shown_of;
 use crate::trouble::Trouble;
 use crate::watch_program::watch_command;
 use crate::words::matches_of;
 use clap::ArgMatches;
+use clap::error::ErrorKind;
 use files::Fault;
 use harts::Gate;
 use std::alloc::{AllocError, Global};
@@ -28,7 +32,7 @@ use thiserror::Error;
 /// What the words ask for, and the file that it reads.
 #[derive(Clone, Copy, Debug)]
 pub struct Ask<'a> {
-    pub task: Task,
+    pub command: Command,
     pub file: &'a str,
 }
 
@@ -61,54 +65,6 @@ impl From<io::Error> for NoWords {
     }
 }
 
-fn inspection_of(word: &str) -> Option<Inspection>
-    ensures { result ≡ inspection_of word.now }
-{
-    if word == "stale" {
-        return Some(Inspection::Stale);
-    }
-    if word == "show" {
-        return Some(Inspection::Show);
-    }
-    if word == "draw" {
-        return Some(Inspection::Draw);
-    }
-    if word == "check" {
-        return Some(Inspection::Check);
-    }
-    None
-}
-
-fn job_of(word: &str) -> Option<Job>
-    ensures { result ≡ job_of word.now }
-{
-    if word == "walk" {
-        return Some(Job::Plain(Which::Walk));
-    }
-    if word == "run" {
-        return Some(Job::Plain(Which::Run));
-    }
-    if word == "live" {
-        return Some(Job::Live);
-    }
-    match inspection_of(word) {
-        Some(inspection) => Some(Job::Inspect(inspection)),
-        None => None,
-    }
-}
-
-fn task_of(word: &str) -> Option<Task>
-    ensures { result ≡ task_of word.now }
-{
-    if word == "watch" {
-        return Some(Task::Watch);
-    }
-    match job_of(word) {
-        Some(job) => Some(Task::Whole(job)),
-        None => None,
-    }
-}
-
 /// What the matches ask for: a command that is known, and FILE.
 fn asked_of<'a>(matches: &ArgMatches<'a>) -> Option<Ask<'a>>
     ensures { option_map ask_view result ≡ asked_of (first_value (found_of matches.now)
@@ -120,23 +76,39 @@ fn asked_of<'a>(matches: &ArgMatches<'a>) -> Option<Ask<'a>>
     let Some(file) = matches.get_str("FILE") else {
         return None;
     };
-    let Some(task) = task_of(word) else {
+    let Some(command) = command_of(word) else {
         return None;
     };
-    Some(Ask { task, file })
+    Some(Ask { command, file })
+}
+
+/// What the words ask for, if they ask for a command that is known and a FILE.
+#[tactic(auto, using(crate::proofs::WordLemmas::asked_found))]
+fn look_up<'a>(alloc: Global, words: &'a [String]) -> Result<Option<Ask<'a>>, AllocError>
+    ensures { IfOk result (λ ask. option_map ask_view ask ≡ asked (map string_bytes words.now)) }
+{
+    match matches_of(alloc, words) {
+        Ok(matches) => Ok(asked_of(&matches)),
+        Err(error) => {
+            if error.kind() == ErrorKind::OutOfMemory {
+                Err(AllocError)
+            } else {
+                Ok(None)
+            }
+        }
+    }
 }
 
 /// What the words ask for, of which the first is the program's name: a command that is known and a
 /// FILE, neither of them an option. `--` ends the options. Refused with `Usage` if they ask for
 /// nothing, and with `NoMemory` if memory runs out.
-#[tactic(auto, using(crate::proofs::WordLemmas::asked_found))]
 pub fn ask_of<'a>(alloc: Global, words: &'a [String]) -> Result<Ask<'a>, Trouble>
     ensures { AsksFor (map string_bytes words.now) result }
 {
-    let matches = matches_of(alloc, words)?;
-    match asked_of(&matches) {
-        Some(ask) => Ok(ask),
-        None => Err(Trouble::Usage),
+    match look_up(alloc, words) {
+        Ok(Some(ask)) => Ok(ask),
+        Ok(None) => Err(Trouble::Usage),
+        Err(_) => Err(Trouble::Refused(Fault::NoMemory)),
     }
 }
 
@@ -151,27 +123,44 @@ fn on_file<T: Threads + Wait + Sync, R: Read + Drop, W: Write, E: Write, G: Gate
     err: &mut E,
     gate: &G,
 ) -> u8
-    ensures { EndsOn R.remaining ask.entry.task ask.entry.file.now input result (W.contents out.old)
+    ensures { EndsOn R.remaining ask.entry.command ask.entry.file.now input result (W.contents out.old)
         (W.contents out.new) (E.contents err.old) (E.contents err.new) }
 {
     let Some(mut reader) = input else {
         return report(alloc, ask.file, &Trouble::Unreadable, err);
     };
-    match ask.task {
-        Task::Whole(Job::Plain(which)) => command(alloc, which, ask.file, &mut reader, out, err),
-        Task::Whole(Job::Live) => live_command(rt, alloc, ask.file, &mut reader, out, err, gate),
-        Task::Whole(Job::Inspect(inspection)) => {
-            inspect_command(alloc, inspection, ask.file, &mut reader, out, err)
-        }
-        Task::Watch => watch_command(alloc, ask.file, reader, out, err),
+    match ask.command {
+        Command::Plain(which) => command(alloc, which, ask.file, &mut reader, out, err),
+        Command::Live => live_command(rt, alloc, ask.file, &mut reader, out, err, gate),
+        Command::Watch => watch_command(alloc, ask.file, reader, out, err),
+    }
+}
+
+/// Shows what the words ask for, which name no file, or tells the usage.
+fn answer_unasked<W: Write, E: Write>(
+    alloc: Global,
+    words: &[String],
+    out: &mut W,
+    err: &mut E,
+) -> u8
+    ensures { EndsUnasked (shown (map string_bytes words.now)) misused result (W.contents out.old)
+        (W.contents out.new) (E.contents err.old) (E.contents err.new) }
+{
+    let Some(what) = shown_of(words) else {
+        return report(alloc, "", &Trouble::Usage, err);
+    };
+    match write_whole(out, what.text().as_bytes()) {
+        Ok(()) => DONE,
+        Err(fault) => report(alloc, "", &Trouble::Refused(fault), err),
     }
 }
 
 /// The whole of the program: does what the words ask for on the file that `reader_of` opens, and
 /// answers the status. It is called with the name of the file, once the words are known to ask for
-/// one. Words that ask for nothing get the line `svsim: usage: svsim COMMAND FILE` and status 2, a
-/// file that is not opened ends as one that can't be read. Memory may run out before the words are
-/// read. Threads are started, and `gate` is asked, by `live` alone.
+/// one. Words that ask for help or the version get it on `out` (`shown_of`), with status 0. Others
+/// that ask for nothing get the line `svsim: usage: svsim COMMAND FILE` and status 2, a file that is
+/// not opened ends as one that can't be read. Memory may run out before the words are read. Threads
+/// are started, and `gate` is asked, by `live` alone.
 pub fn answer_words<
     T: Threads + Wait + Sync,
     R: Read + Drop,
@@ -191,21 +180,21 @@ pub fn answer_words<
     requires { O.IsAlwaysCallable reader_of }
     ensures asked { IfOk (asked_in words) (λ ask. ((input : Option R)
         × FnOnceReturnsAt O.FnOnce reader_of ask.file input
-        × EndsOn R.remaining ask.task ask.file input result (W.contents out.old) (W.contents out.new)
+        × EndsOn R.remaining ask.command ask.file input result (W.contents out.old) (W.contents out.new)
         (E.contents err.old) (E.contents err.new))
         ⊎ (Reports [] no_memory result (E.contents err.old) (E.contents err.new)
         × Keeps (W.contents out.old) (W.contents out.new))) }
-    ensures unasked { IfErr (asked_in words) (λ ending.
-        Reports [] ending result (E.contents err.old) (E.contents err.new)
-        × Keeps (W.contents out.old) (W.contents out.new)) }
+    ensures unasked { IfErr (asked_in words) (λ ending. EndsUnasked (shown_in words) ending result
+        (W.contents out.old) (W.contents out.new) (E.contents err.old) (E.contents err.new)) }
 {
     let words = match words {
         Ok(words) => words,
         Err(NoWords::NotText) => return report(alloc, "", &Trouble::Usage, err),
         Err(NoWords::NoMemory) => return report(alloc, "", &Trouble::Refused(Fault::NoMemory), err),
     };
-    match ask_of(alloc, words.as_slice()) {
-        Ok(ask) => on_file(rt, alloc, ask, reader_of(ask.file), out, err, gate),
-        Err(trouble) => report(alloc, "", &trouble, err),
+    match look_up(alloc, words.as_slice()) {
+        Ok(Some(ask)) => on_file(rt, alloc, ask, reader_of(ask.file), out, err, gate),
+        Ok(None) => answer_unasked(alloc, words.as_slice(), out, err),
+        Err(_) => report(alloc, "", &Trouble::Refused(Fault::NoMemory), err),
     }
 }

@@ -2,24 +2,35 @@
 ghost use Rattle.std.specs.Prelude.{◌≡◌, List, ℕ, [], Option, Some, None, codes};
 ghost use Rattle.files.specs.declared.fault.Fault.TheVariants.{Layout, NoMemory, Output};
 ghost use Rattle.files.specs.Faults.{Failure, bad_layout, too_many};
-ghost use Rattle.scenario.specs.Command.{done, Ends, error_line, file_fault, FileLines, refused, Reports};
+ghost use Rattle.scenario.specs.Command.{done, Ends, error_line, file_fault, refused, Reports};
+ghost use Rattle.scenario.specs.Commands.{live, meaning_of};
+ghost use Rattle.scenario.specs.declared.commands.Which.{Which};
 ghost use Rattle.scenario.specs.Output.{AppendsFront, EndsBy, WritesAll};
-ghost use Rattle.scenario.specs.declared.program.Job.{Job};
 ghost use Rattle.scenario.specs.WorkedFiles.{IsOkLine};
 
 /// Status 0 says that a file has no fault, that all its lines were written, and nothing on standard
 /// error; status 3, that the file has a first fault, and that a beginning of its line was written
 /// on standard error.
 pub fn what_a_status_says()
-    ensures done { (job : Job) (file bytes : List ℕ)
+    ensures done { (which : Which) (file bytes : List ℕ)
         (out_old out_new err_old err_new : Option (List ℕ))
-        → Ends job file bytes 0 out_old out_new err_old err_new
-        → (file_fault job bytes ≡ None) × WritesAll (FileLines job bytes) out_old out_new
+        → Ends (meaning_of which) file bytes 0 out_old out_new err_old err_new
+        → (file_fault (meaning_of which) bytes ≡ None)
+        × WritesAll ((meaning_of which).Lines bytes) out_old out_new
         × AppendsFront err_old err_new [] }
-    ensures refused { (job : Job) (file bytes : List ℕ)
+    ensures live_done { (file bytes : List ℕ) (out_old out_new err_old err_new : Option (List ℕ))
+        → Ends live file bytes 0 out_old out_new err_old err_new
+        → (file_fault live bytes ≡ None) × WritesAll (live.Lines bytes) out_old out_new
+        × AppendsFront err_old err_new [] }
+    ensures refused { (which : Which) (file bytes : List ℕ)
         (out_old out_new err_old err_new : Option (List ℕ))
-        → Ends job file bytes 3 out_old out_new err_old err_new
-        → (failure : Failure) × (file_fault job bytes ≡ Some failure)
+        → Ends (meaning_of which) file bytes 3 out_old out_new err_old err_new
+        → (failure : Failure) × (file_fault (meaning_of which) bytes ≡ Some failure)
+        × AppendsFront err_old err_new (error_line file (refused failure)) }
+    ensures live_refused { (file bytes : List ℕ)
+        (out_old out_new err_old err_new : Option (List ℕ))
+        → Ends live file bytes 3 out_old out_new err_old err_new
+        → (failure : Failure) × (file_fault live bytes ≡ Some failure)
         × AppendsFront err_old err_new (error_line file (refused failure)) }
 {}
 

@@ -1,23 +1,26 @@
 //! Scenario files: from a file's bytes to the lines that `svsim` prints.
 //!
 //! `walk_text` and `run_text` answer a text, `command` does the whole of a command over any reader
-//! and writers, `live_command` the whole of `live`, whose harts are threads, `inspect_command` that
-//! of `stale`, `show`, `draw` and `check`, `watch_command` that of `watch`, and `answer_words` is the
-//! whole program over the words of the command line. But for `watch` a text is read and checked whole
-//! before its first line is written.
+//! and writers, `live_command` that of `live`, whose harts are threads, `watch_command` that of
+//! `watch`, and `answer_words` is the whole program over the words of the command line. But for
+//! `watch` a text is read and checked whole before its first line is written.
 #![tactic(auto)]
 
 mod command_line;
+mod commands;
 mod ending_laws;
+mod finding;
 mod format_laws;
 mod input;
-mod inspect_program;
+mod inspections;
 mod limits;
 mod live_program;
 mod live_texts;
+mod outcome;
 mod output;
 mod print_laws;
 mod program;
+mod shown;
 mod stale_items;
 mod stale_texts;
 mod system;
@@ -28,18 +31,19 @@ mod word_laws;
 mod words;
 
 pub use command_line::{Ask, NoWords, answer_words, ask_of};
+pub use commands::{Command, Which};
 pub use ending_laws::{what_a_status_says, worked_faults, worked_reports};
 pub use files::{
     Fault, first_wrong_step, least_unknown_key, mode_is_sv39_by_default, worked_modes, worked_turns,
 };
 pub use format_laws::worked_endings;
-pub use inspect_program::inspect_command;
 pub use limits::worked_limit;
 pub use lines::one_text;
 pub use live_program::live_command;
 pub use live_texts::live_lines;
 pub use print_laws::{one_print, worked_prints};
-pub use program::{Inspection, Job, Task, Which, command};
+pub use program::command;
+pub use shown::{Shown, shown_of};
 pub use spaces::limits_are_checked;
 pub use stale_items::stale_lines;
 pub use stale_texts::{StaleText, stale_text};

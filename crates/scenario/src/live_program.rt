@@ -1,18 +1,18 @@
 //! The command `live`, over any reader and writers.
-ghost use Rattle.std.specs.Prelude.{◌≡◌, ◌⊎◌, ◌+◌, ◌≤◌, List, ℕ, length, map, IfErr, IfOk, None, string_bytes};
+ghost use Rattle.std.specs.Prelude.{◌≡◌, ◌⊎◌, ◌+◌, List, ℕ, map, IfErr, IfOk, string_bytes};
 ghost use Rattle.std.specs.Io.KnownBytes.{Keeps};
-ghost use Rattle.files.specs.Faults.{fault_in};
-ghost use Rattle.scenario.specs.Command.{ending_in, Ends, EndsAs};
+ghost use Rattle.files.specs.LiveFile.{live_view};
+ghost use Rattle.scenario.specs.Command.{Ends};
+ghost use Rattle.scenario.specs.Commands.{live};
 ghost use Rattle.scenario.specs.Input.{AreLeft, ReadsUpTo};
 ghost use Rattle.scenario.specs.Limits.{most_bytes};
-ghost use Rattle.files.specs.LiveFile.{live_file, live_scenario_of, live_view};
-ghost use Rattle.scenario.specs.Prints.{AreAnswers, IsUnprinted, IsUnstarted, LinesOf, PrintsLive};
-ghost use Rattle.scenario.specs.declared.program.Job.TheVariants.{Live};
+ghost use Rattle.scenario.specs.Outcomes.{IsAnswered, IsFound, IsUnanswered, IsUnstarted};
+ghost use Rattle.scenario.specs.Prints.{AreAnswers};
 
 use crate::input::read_file;
 use crate::live_texts::live_lines;
-use crate::output::write_whole;
-use crate::program::{DONE, report};
+use crate::outcome::Outcome;
+use crate::program::end;
 use crate::trouble::Trouble;
 use files::{Fault, LiveScenario, read_live};
 use harts::{Gate, LiveFault, LiveReport, run_live};
@@ -49,67 +49,47 @@ fn run_harts<T: Threads + Wait + Sync, G: Gate + Sync>(
     }
 }
 
-/// The lines that a text prints.
-fn text_lines<T: Threads + Wait + Sync, G: Gate + Sync>(
+/// What `live` makes of a text, or why nothing.
+fn live_outcome<T: Threads + Wait + Sync, G: Gate + Sync>(
     rt: &T,
     alloc: Global,
     text: &str,
     gate: &G,
-) -> Result<String, Trouble>
-    ensures faultless { IfOk result (λ _. fault_in (live_scenario_of text.now) ≡ None) }
-    ensures lines { IfOk result (λ lines. LinesOf PrintsLive (live_scenario_of text.now)
-        (string_bytes lines)) }
-    ensures err { IfErr result (λ trouble. IsUnprinted trouble (live_scenario_of text.now)) }
+) -> Result<Outcome, Trouble>
+    ensures ok { IfOk result (λ outcome. IsFound live text.now (string_bytes outcome.lines)
+        outcome.finding) }
+    ensures err { IfErr result (IsUnanswered live text.now) }
 {
     let scenario = match read_live(alloc, text) {
         Ok(scenario) => scenario,
         Err(fault) => return Err(Trouble::Refused(fault)),
     };
     let answers = run_harts(rt, alloc, &scenario, gate)?;
-    Ok(live_lines(
+    let lines = live_lines(
         alloc,
         answers.setup.as_slice(),
         answers.scripts.as_slice(),
         answers.report.pairs.as_slice(),
-    )?)
+    )?;
+    Ok(Outcome::of_lines(lines))
 }
 
-/// The lines that the bytes of a file print.
-fn file_lines<T: Threads + Wait + Sync, G: Gate + Sync>(
-    rt: &T,
-    alloc: Global,
-    bytes: &[u8],
-    gate: &G,
-) -> Result<String, Trouble>
-    ensures faultless { IfOk result (λ _. fault_in (live_file bytes.now) ≡ None) }
-    ensures lines { IfOk result (λ lines. LinesOf PrintsLive (live_file bytes.now)
-        (string_bytes lines)) }
-    ensures err { IfErr result (λ trouble. IsUnprinted trouble (live_file bytes.now)) }
-{
-    match str::from_utf8(bytes) {
-        Ok(text) => text_lines(rt, alloc, text, gate),
-        Err(_) => Err(Trouble::Refused(Fault::NotToml)),
-    }
-}
-
-/// Reads a file, runs its harts, and writes what they answered.
-fn run<T: Threads + Wait + Sync, R: Read, W: Write, G: Gate + Sync>(
+/// What `live` makes of the file that `input` reads, or why nothing.
+fn answer_live<T: Threads + Wait + Sync, R: Read, G: Gate + Sync>(
     rt: &T,
     alloc: Global,
     input: &mut R,
-    out: &mut W,
     gate: &G,
-) -> Result<(), Trouble>
-    ensures ends { (bytes : List ℕ) × AreLeft (R.remaining input.old) bytes
-        × EndsAs Live bytes (ending_in result) (W.contents out.old) (W.contents out.new) }
+) -> Result<Outcome, Trouble>
+    ensures answered { (bytes : List ℕ) × AreLeft (R.remaining input.old) bytes
+        × IsAnswered live bytes result }
     ensures read { ReadsUpTo (most_bytes + 1) (R.remaining input.old) (R.remaining input.new) }
 {
     let bytes = read_file(alloc, input)?;
-    let lines = file_lines(rt, alloc, bytes.as_slice(), gate)?;
-    match write_whole(out, lines.as_bytes()) {
-        Ok(()) => Ok(()),
-        Err(fault) => Err(Trouble::Refused(fault)),
-    }
+    let Ok(text) = str::from_utf8(bytes.as_slice()) else {
+        return Err(Trouble::Refused(Fault::NotToml));
+    };
+    live_outcome(rt, alloc, text, gate)
 }
 
 /// Does `live` on the file that `input` reads, and answers the status of the program: the harts
@@ -132,13 +112,11 @@ pub fn live_command<T: Threads + Wait + Sync, R: Read, W: Write, E: Write, G: Ga
     gate: &G,
 ) -> u8
     ensures ends { (bytes : List ℕ) × AreLeft (R.remaining input.old) bytes
-        × Ends Live file.now bytes result (W.contents out.old) (W.contents out.new)
+        × Ends live file.now bytes result (W.contents out.old) (W.contents out.new)
         (E.contents err.old) (E.contents err.new) }
     ensures silent { (result ≡ 2) ⊎ (result ≡ 3) → Keeps (W.contents out.old) (W.contents out.new) }
     ensures read { ReadsUpTo (most_bytes + 1) (R.remaining input.old) (R.remaining input.new) }
 {
-    match run(rt, alloc, input, out, gate) {
-        Ok(()) => DONE,
-        Err(trouble) => report(alloc, file, &trouble, err),
-    }
+    let answered = answer_live(rt, alloc, input, gate);
+    end(alloc, file, answered, out, err)
 }

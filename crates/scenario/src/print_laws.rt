@@ -3,9 +3,7 @@ ghost use Rattle.std.specs.Prelude.{◌≡◌, ◌↔◌, List, ℕ, [], Result,
 ghost use Rattle.files.specs.RunFile.{RunPlan};
 ghost use Rattle.files.specs.WalkFile.{WalkPlan};
 ghost use Rattle.files.specs.Faults.{Failure};
-ghost use Rattle.scenario.specs.Command.{FileLines};
-ghost use Rattle.scenario.specs.declared.program.Job.TheVariants.{Plain};
-ghost use Rattle.scenario.specs.declared.program.Which.TheVariants.{Run, Walk};
+ghost use Rattle.scenario.specs.Commands.{run, walk};
 ghost use Rattle.scenario.specs.Prints.{LinesOf, Prints, PrintsReplies};
 ghost use Rattle.scenario.specs.WorkedFiles.{layout_text, run_text, walk_text};
 
@@ -20,9 +18,9 @@ pub fn one_print()
 /// Files with the lines that are printed of them, and no others: the answer of an access, the
 /// replies to five steps, and nothing of a file with a fault.
 pub fn worked_prints()
-    ensures walk { (lines : List ℕ) → FileLines (Plain Walk) walk_text lines
+    ensures walk { (lines : List ℕ) → walk.Lines walk_text lines
         ↔ (lines ≡ codes "1 pa 0x12345abc 4K\n") }
-    ensures run { (lines : List ℕ) → FileLines (Plain Run) run_text lines
+    ensures run { (lines : List ℕ) → run.Lines run_text lines
         ↔ (lines ≡ codes "1 leaf\n2 more\n3 fill 0x80001234\n4 hit 0x80001234\n5 opened 0\n") }
-    ensures faulty { (lines : List ℕ) → FileLines (Plain Run) layout_text lines ↔ (lines ≡ []) }
+    ensures faulty { (lines : List ℕ) → run.Lines layout_text lines ↔ (lines ≡ []) }
 {}

@@ -1,63 +1,28 @@
 //! What the program does, over any reader and writers.
-ghost use Rattle.std.specs.Prelude.{◌≡◌, ◌⊎◌, ◌+◌, ◌≤◌, List, ℕ, length, None, OnOk, IfErr, IfOk, string_bytes};
+ghost use Rattle.std.specs.Prelude.{◌≡◌, ◌⊎◌, ◌+◌, List, ℕ, IfErr, IfOk, string_bytes};
 ghost use Rattle.std.specs.Io.KnownBytes.{Keeps};
-ghost use Rattle.scenario.specs.Output.{AppendsFront, EndsBy, WritesAll};
 ghost use Rattle.scenario.specs.Input.{AreLeft, ReadsUpTo};
 ghost use Rattle.scenario.specs.Limits.{most_bytes};
-ghost use Rattle.scenario.specs.declared.program.Job.TheVariants.{Plain};
-ghost use Rattle.scenario.specs.Command.{ending_in, ending_of, Ends, EndsAs, error_line, file_fault, FileLines, Reports, status_of};
+ghost use Rattle.scenario.specs.Command.{ending_of, Ends, error_line, Reports, status_of};
+ghost use Rattle.scenario.specs.Commands.{meaning_of};
+ghost use Rattle.scenario.specs.Outcomes.{EndsAnswered, IsAnswered, IsFound, IsRefused, IsUnanswered};
 
+use crate::commands::Which;
+use crate::finding::Finding;
 use crate::input::read_file;
+use crate::inspections::{checked, picture_of, stale_of, state_of};
+use crate::outcome::Outcome;
 use crate::output::write_whole;
-use crate::texts::{run_text, walk_text};
+use crate::texts::{replies_of, walked};
 use crate::trouble::Trouble;
 use files::Fault;
 use std::alloc::{AllocError, Global};
 use std::io::{Read, Write};
 
-/// The commands of the program.
-#[derive(Clone, Copy, Debug, PartialEq, Eq)]
-pub enum Which {
-    /// Answers accesses by walks from one root.
-    Walk,
-    /// Runs the steps of the harts.
-    Run,
-}
-
-/// What a file can be looked at for, beside its replies.
-#[derive(Clone, Copy, Debug, PartialEq, Eq)]
-pub enum Inspection {
-    /// Which steps make mappings of TLBs stale, and which accesses stale mappings answer.
-    Stale,
-    /// The state of the machine after the last step.
-    Show,
-    /// A picture of the run.
-    Draw,
-    /// What is wrong with a file, of any command.
-    Check,
-}
-
-/// What the program can do with a file that is read whole.
-#[derive(Clone, Copy, Debug, PartialEq, Eq)]
-pub enum Job {
-    /// A command that starts no thread.
-    Plain(Which),
-    /// `live`: runs scripts of harts, each on a thread of its own.
-    Live,
-    /// Says of a file what its replies don't.
-    Inspect(Inspection),
-}
-
-/// What the program can be asked for.
-#[derive(Clone, Copy, Debug, PartialEq, Eq)]
-pub enum Task {
-    /// A file is read whole, and then answered.
-    Whole(Job),
-    /// A trace is read line by line, for its verdicts.
-    Watch,
-}
-
 pub(crate) const DONE: u8 = 0;
+
+/// A stale mapping answered an access.
+const STALE_USED: u8 = 1;
 
 const NOT_READ: u8 = 2;
 
@@ -96,41 +61,6 @@ fn error_text(alloc: Global, file: &str, trouble: &Trouble) -> Result<String, Al
     Ok(text)
 }
 
-/// Does a command on the bytes of a file.
-fn run_file<W: Write>(alloc: Global, which: Which, bytes: &[u8], out: &mut W) -> Result<(), Fault>
-    ensures faultless { OnOk result (file_fault (Plain which) bytes.now ≡ None) }
-    ensures written { OnOk result (WritesAll (FileLines (Plain which) bytes.now)
-        (W.contents out.old) (W.contents out.new)) }
-    ensures err { IfErr result (λ fault. EndsBy fault (file_fault (Plain which) bytes.now)
-        (FileLines (Plain which) bytes.now) (W.contents out.old) (W.contents out.new)) }
-{
-    let Ok(text) = str::from_utf8(bytes) else {
-        return Err(Fault::NotToml);
-    };
-    match which {
-        Which::Walk => walk_text(alloc, text, out),
-        Which::Run => run_text(alloc, text, out),
-    }
-}
-
-/// Reads a file and does a command on it.
-fn run<R: Read, W: Write>(
-    alloc: Global,
-    which: Which,
-    input: &mut R,
-    out: &mut W,
-) -> Result<(), Trouble>
-    ensures ends { (bytes : List ℕ) × AreLeft (R.remaining input.old) bytes
-        × EndsAs (Plain which) bytes (ending_in result) (W.contents out.old) (W.contents out.new) }
-    ensures read { ReadsUpTo (most_bytes + 1) (R.remaining input.old) (R.remaining input.new) }
-{
-    let bytes = read_file(alloc, input)?;
-    match run_file(alloc, which, bytes.as_slice(), out) {
-        Ok(()) => Ok(()),
-        Err(fault) => Err(Trouble::Refused(fault)),
-    }
-}
-
 /// Writes the line of a trouble, as far as it goes, and answers the status.
 pub(crate) fn report<E: Write>(alloc: Global, file: &str, trouble: &Trouble, err: &mut E) -> u8
     ensures { Reports file.now (ending_of trouble.now) result (E.contents err.old)
@@ -148,11 +78,79 @@ pub(crate) fn report<E: Write>(alloc: Global, file: &str, trouble: &Trouble, err
     }
 }
 
-/// Does a command on the file that `input` reads, and answers the status of the program: 0 done, 2
-/// not read, too large, or not TOML, 3 a refused scenario, 4 the output failed, 5 out of memory. At
-/// all but 0 one line goes to `err`, as far as it takes it; its own faults count for nothing.
-/// `file` is the file's name in the line. No more than 1,048,577 bytes are read. A read that fails is
-/// `cannot read`; one that a signal interrupts is tried again (`read_retrying`).
+/// Writes what was answered of a file, and answers the status of the program.
+pub(crate) fn end<W: Write, E: Write>(
+    alloc: Global,
+    file: &str,
+    answered: Result<Outcome, Trouble>,
+    out: &mut W,
+    err: &mut E,
+) -> u8
+    ensures { EndsAnswered answered file.now result (W.contents out.old) (W.contents out.new)
+        (E.contents err.old) (E.contents err.new) }
+{
+    let Outcome { lines, finding } = match answered {
+        Ok(outcome) => outcome,
+        Err(trouble) => return report(alloc, file, &trouble, err),
+    };
+    if let Err(fault) = write_whole(out, lines.as_bytes()) {
+        return report(alloc, file, &Trouble::Refused(fault), err);
+    }
+    match finding {
+        Finding::Nothing => DONE,
+        Finding::StaleUsed => STALE_USED,
+        Finding::Faulty(fault) => report(alloc, file, &Trouble::Refused(fault), err),
+    }
+}
+
+/// What a command makes of a text, or its fault.
+fn plain_outcome(alloc: Global, which: Which, text: &str) -> Result<Outcome, Fault>
+    ensures ok { IfOk result (λ outcome. IsFound (meaning_of which) text.now
+        (string_bytes outcome.lines) outcome.finding) }
+    ensures err { IfErr result (IsRefused (meaning_of which) text.now) }
+{
+    match which {
+        Which::Walk => walked(alloc, text),
+        Which::Run => replies_of(alloc, text),
+        Which::Stale => stale_of(alloc, text),
+        Which::Show => state_of(alloc, text),
+        Which::Draw => picture_of(alloc, text),
+        Which::Check => Ok(checked(alloc, text)?),
+    }
+}
+
+/// What a command makes of a text, or why nothing.
+fn outcome_of(alloc: Global, which: Which, text: &str) -> Result<Outcome, Trouble>
+    ensures ok { IfOk result (λ outcome. IsFound (meaning_of which) text.now
+        (string_bytes outcome.lines) outcome.finding) }
+    ensures err { IfErr result (IsUnanswered (meaning_of which) text.now) }
+{
+    match plain_outcome(alloc, which, text) {
+        Ok(outcome) => Ok(outcome),
+        Err(fault) => Err(Trouble::Refused(fault)),
+    }
+}
+
+/// What a command makes of the file that `input` reads, or why nothing.
+fn answer<R: Read>(alloc: Global, which: Which, input: &mut R) -> Result<Outcome, Trouble>
+    ensures answered { (bytes : List ℕ) × AreLeft (R.remaining input.old) bytes
+        × IsAnswered (meaning_of which) bytes result }
+    ensures read { ReadsUpTo (most_bytes + 1) (R.remaining input.old) (R.remaining input.new) }
+{
+    let bytes = read_file(alloc, input)?;
+    let Ok(text) = str::from_utf8(bytes.as_slice()) else {
+        return Err(Trouble::Refused(Fault::NotToml));
+    };
+    outcome_of(alloc, which, text)
+}
+
+/// Does a command on the file that `input` reads, and answers the status of the program: 0 done,
+/// and for `stale` no access was answered by a stale mapping, 1 for `stale` one was, 2 not read, too
+/// large, or not TOML, 3 a refused scenario, 4 the output failed, 5 out of memory. At 2 to 5 one
+/// line goes to `err`, as far as it takes it; its own faults count for nothing. `check` writes what
+/// is wrong with a faulty file to `out`, at 2 and 3 too, if the file is UTF-8; the others write
+/// nothing then. `file` is the file's name in the line. No more than 1,048,577 bytes are read. A
+/// read that fails is `cannot read`; one that a signal interrupts is tried again (`read_retrying`).
 pub fn command<R: Read, W: Write, E: Write>(
     alloc: Global,
     which: Which,
@@ -162,13 +160,12 @@ pub fn command<R: Read, W: Write, E: Write>(
     err: &mut E,
 ) -> u8
     ensures ends { (bytes : List ℕ) × AreLeft (R.remaining input.old) bytes
-        × Ends (Plain which) file.now bytes result (W.contents out.old) (W.contents out.new)
-        (E.contents err.old) (E.contents err.new) }
-    ensures silent { (result ≡ 2) ⊎ (result ≡ 3) → Keeps (W.contents out.old) (W.contents out.new) }
+        × Ends (meaning_of which) file.now bytes result (W.contents out.old)
+        (W.contents out.new) (E.contents err.old) (E.contents err.new) }
+    ensures silent { ¬ (meaning_of which).Explains → (result ≡ 2) ⊎ (result ≡ 3)
+        → Keeps (W.contents out.old) (W.contents out.new) }
     ensures read { ReadsUpTo (most_bytes + 1) (R.remaining input.old) (R.remaining input.new) }
 {
-    match run(alloc, which, input, out) {
-        Ok(()) => DONE,
-        Err(trouble) => report(alloc, file, &trouble, err),
-    }
+    let answered = answer(alloc, which, input);
+    end(alloc, file, answered, out, err)
 }

@@ -3,10 +3,8 @@
 ghost use Rattle.std.specs.Prelude.{◌≡◌, ℕ, List, [], ◌∷◌, true, false, Some, None, codes};
 ghost use Rattle.std.specs.List.{list_all};
 ghost use Rattle.std.specs.Str.{is_utf8};
-ghost use Rattle.scenario.specs.declared.program.Job.TheVariants.{Plain, Live, Inspect};
-ghost use Rattle.scenario.specs.declared.program.Task.TheVariants.{Watch, Whole};
-ghost use Rattle.scenario.specs.declared.program.Inspection.TheVariants.{Stale, Show, Draw, Check};
-ghost use Rattle.scenario.specs.declared.program.Which.TheVariants.{Walk, Run};
+ghost use Rattle.scenario.specs.declared.commands.Command.TheVariants.{Live, Plain, Watch};
+ghost use Rattle.scenario.specs.declared.commands.Which.TheVariants.{Draw, Run, Show, Stale, Walk};
 ghost use Rattle.scenario.specs.CommandLine.{asked, asked_by, asked_of_values, is_option, values};
 
 /// What `clap` takes is what can be read off the words: two values, and no option before a `--`. Of
@@ -24,9 +22,9 @@ pub fn worked_words()
     ensures no_words { asked (codes "svsim" ∷ []) ≡ None }
     ensures one { asked (codes "svsim" ∷ codes "walk" ∷ []) ≡ None }
     ensures two { asked (codes "svsim" ∷ codes "walk" ∷ codes "f" ∷ [])
-        ≡ Some (record { task = Whole (Plain Walk); file = codes "f" }) }
+        ≡ Some (record { command = Plain Walk; file = codes "f" }) }
     ensures watch { asked (codes "svsim" ∷ codes "watch" ∷ codes "-" ∷ [])
-        ≡ Some (record { task = Watch; file = codes "-" }) }
+        ≡ Some (record { command = Watch; file = codes "-" }) }
     ensures watch_alone { asked (codes "svsim" ∷ codes "watch" ∷ []) ≡ None }
     ensures three { asked (codes "svsim" ∷ codes "walk" ∷ codes "f" ∷ codes "g" ∷ []) ≡ None }
     ensures four { asked (codes "svsim" ∷ codes "run" ∷ codes "--" ∷ codes "f" ∷ codes "g" ∷ [])
@@ -34,15 +32,15 @@ pub fn worked_words()
     ensures unknown { asked (codes "svsim" ∷ codes "Run" ∷ codes "f" ∷ []) ≡ None }
     ensures file_first { asked (codes "svsim" ∷ codes "f" ∷ codes "run" ∷ []) ≡ None }
     ensures no_file_name { asked (codes "svsim" ∷ codes "run" ∷ [] ∷ [])
-        ≡ Some (record { task = Whole (Plain Run); file = [] }) }
+        ≡ Some (record { command = Plain Run; file = [] }) }
     ensures dash { asked (codes "svsim" ∷ codes "live" ∷ codes "-" ∷ [])
-        ≡ Some (record { task = Whole Live; file = codes "-" }) }
+        ≡ Some (record { command = Live; file = codes "-" }) }
     ensures end { asked (codes "svsim" ∷ codes "stale" ∷ codes "--" ∷ codes "-x" ∷ [])
-        ≡ Some (record { task = Whole (Inspect Stale); file = codes "-x" }) }
+        ≡ Some (record { command = Plain Stale; file = codes "-x" }) }
     ensures end_first { asked (codes "svsim" ∷ codes "--" ∷ codes "show" ∷ codes "--" ∷ [])
-        ≡ Some (record { task = Whole (Inspect Show); file = codes "--" }) }
+        ≡ Some (record { command = Plain Show; file = codes "--" }) }
     ensures end_last { asked (codes "svsim" ∷ codes "draw" ∷ codes "f" ∷ codes "--" ∷ [])
-        ≡ Some (record { task = Whole (Inspect Draw); file = codes "f" }) }
+        ≡ Some (record { command = Plain Draw; file = codes "f" }) }
     ensures end_alone { asked (codes "svsim" ∷ codes "check" ∷ codes "--" ∷ []) ≡ None }
     ensures option_first { asked (codes "svsim" ∷ codes "-x" ∷ codes "run" ∷ codes "f" ∷ [])
         ≡ None }

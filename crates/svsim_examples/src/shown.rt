@@ -1,6 +1,6 @@
 //! The sheets of the folder `shown`: `NAME-N.txt` is what `show` prints after the first N steps of
 //! `NAME.toml`.
-use scenario::{Inspection, inspect_command};
+use scenario::{Which, command};
 use std::alloc::{AllocError, Global};
 use std::{fs, io};
 
@@ -53,13 +53,6 @@ pub fn is_shown(rt: &HostRuntime, sheet: &str) -> io::Result<bool> {
     let mut input = first.as_bytes();
     let mut out: Vec<u8> = Vec::new(alloc);
     let mut err: Vec<u8> = Vec::new(alloc);
-    let status = inspect_command(
-        alloc,
-        Inspection::Show,
-        name,
-        &mut input,
-        &mut out,
-        &mut err,
-    );
+    let status = command(alloc, Which::Show, name, &mut input, &mut out, &mut err);
     Ok(status == 0 && err.is_empty() && out.as_slice() == wanted.as_bytes())
 }

@@ -1,6 +1,6 @@
 //! How a command ends, with readers and writers that may fail.
 use harts::OpenGate;
-use scenario::{Inspection, Which, command, inspect_command, live_command};
+use scenario::{Which, command, live_command};
 use std::alloc::Global;
 use std::io;
 use std::io::{ErrorKind, Read, Write};
@@ -8,22 +8,21 @@ use std::sync::Wait;
 use std::test::Fail;
 use std::thread::Threads;
 
-/// A command of the program.
+/// A command that reads a file whole.
 #[derive(Clone, Copy, PartialEq, Eq)]
 pub enum Job {
-    Command(Which),
+    Plain(Which),
     Live,
-    Inspection(Inspection),
 }
 
 pub const JOBS: [Job; 7] = [
-    Job::Command(Which::Walk),
-    Job::Command(Which::Run),
+    Job::Plain(Which::Walk),
+    Job::Plain(Which::Run),
     Job::Live,
-    Job::Inspection(Inspection::Stale),
-    Job::Inspection(Inspection::Show),
-    Job::Inspection(Inspection::Draw),
-    Job::Inspection(Inspection::Check),
+    Job::Plain(Which::Stale),
+    Job::Plain(Which::Show),
+    Job::Plain(Which::Draw),
+    Job::Plain(Which::Check),
 ];
 
 /// A reader that gives pieces of at most `piece` bytes, and fails once it was read `reads` times.
@@ -122,11 +121,8 @@ pub fn status_of<T: Threads + Wait + Sync, R: Read, W: Write, E: Write>(
     err: &mut E,
 ) -> u8 {
     match job {
-        Job::Command(which) => command(alloc, which, "a file", input, out, err),
+        Job::Plain(which) => command(alloc, which, "a file", input, out, err),
         Job::Live => live_command(rt, alloc, "a file", input, out, err, &OpenGate),
-        Job::Inspection(inspection) => {
-            inspect_command(alloc, inspection, "a file", input, out, err)
-        }
     }
 }
 

@@ -8,7 +8,7 @@ use std::io;
 use std::io::{ErrorKind, Read, Write};
 use std::test::Fail;
 
-const WALK: Job = Job::Command(Which::Walk);
+const WALK: Job = Job::Plain(Which::Walk);
 
 /// How often a read or write is tried.
 const MOST_TRIES: u32 = 65_536;

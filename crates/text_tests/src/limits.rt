@@ -7,9 +7,9 @@ use std::sync::Wait;
 use std::test::Fail;
 use std::thread::Threads;
 
-const WALK: Job = Job::Command(Which::Walk);
+const WALK: Job = Job::Plain(Which::Walk);
 
-const RUN: Job = Job::Command(Which::Run);
+const RUN: Job = Job::Plain(Which::Run);
 
 /// A file of these keys and of a number of steps, the first of them another one.
 fn steps_file(

@@ -5,17 +5,17 @@ use crate::ends::{AtEnd, Job, Narrow, Pieces, end_of, status_of};
 use crate::samples::{
     BOTH_UNMAP, DEEP_LIVE, DEEP_RUN, DEEP_WALK, FILE, FLUSH, SHOOTDOWN, SPACE_RUN,
 };
-use scenario::{Inspection, Which};
+use scenario::Which;
 use std::alloc::Global;
 use std::sync::Wait;
 use std::test::Fail;
 use std::thread::Threads;
 
-const WALK: Job = Job::Command(Which::Walk);
+const WALK: Job = Job::Plain(Which::Walk);
 
-const RUN: Job = Job::Command(Which::Run);
+const RUN: Job = Job::Plain(Which::Run);
 
-const CHECK: Job = Job::Inspection(Inspection::Check);
+const CHECK: Job = Job::Plain(Which::Check);
 
 /// The files that end early too, and their commands.
 const FILES: [(Job, &str); 8] = [
@@ -39,9 +39,9 @@ pub(crate) const ALL: [(Job, &str, u8); 12] = [
     (Job::Live, FLUSH, 0),
     (Job::Live, BOTH_UNMAP, 0),
     (Job::Live, DEEP_LIVE, 0),
-    (Job::Inspection(Inspection::Stale), SHOOTDOWN, 1),
-    (Job::Inspection(Inspection::Show), SHOOTDOWN, 0),
-    (Job::Inspection(Inspection::Draw), SHOOTDOWN, 0),
+    (Job::Plain(Which::Stale), SHOOTDOWN, 1),
+    (Job::Plain(Which::Show), SHOOTDOWN, 0),
+    (Job::Plain(Which::Draw), SHOOTDOWN, 0),
     (CHECK, SHOOTDOWN, 0),
 ];
 
@@ -193,12 +193,9 @@ const REFUSED: [(Job, &str); 7] = [
     (WALK, "svsim: key harts: wrong\n"),
     (RUN, "svsim: layout refused\n"),
     (Job::Live, "svsim: layout refused\n"),
-    (
-        Job::Inspection(Inspection::Stale),
-        "svsim: layout refused\n",
-    ),
-    (Job::Inspection(Inspection::Show), "svsim: layout refused\n"),
-    (Job::Inspection(Inspection::Draw), "svsim: layout refused\n"),
+    (Job::Plain(Which::Stale), "svsim: layout refused\n"),
+    (Job::Plain(Which::Show), "svsim: layout refused\n"),
+    (Job::Plain(Which::Draw), "svsim: layout refused\n"),
     (CHECK, "svsim: layout refused\n"),
 ];
 

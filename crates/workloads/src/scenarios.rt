@@ -4,7 +4,7 @@ use crate::Failure;
 use crate::digest::Digest;
 use crate::file_texts::{Scenario, walk_file};
 use crate::random::Random;
-use scenario::{Inspection, Which, command, inspect_command};
+use scenario::{Which, command};
 use std::alloc::Global;
 
 /// How many steps a file has: few are long.
@@ -22,15 +22,6 @@ fn answer(alloc: Global, which: Which, file: &[u8], digest: &mut Digest) {
     digest.take_number(err.hash);
 }
 
-/// An inspection of a file.
-fn inspect(alloc: Global, inspection: Inspection, file: &[u8], digest: &mut Digest) {
-    let mut input = file;
-    let mut err = Digest::new();
-    let status = inspect_command(alloc, inspection, "file", &mut input, digest, &mut err);
-    digest.take_number(u64::from(status));
-    digest.take_number(err.hash);
-}
-
 /// One file, and the command that it is for. Half of the files are for `run` alone.
 fn one(alloc: Global, random: &mut Random, digest: &mut Digest) -> Result<(), Failure> {
     let steps = steps_of(random);
@@ -44,10 +35,10 @@ fn one(alloc: Global, random: &mut Random, digest: &mut Digest) -> Result<(), Fa
     let left = if dice < 8 { 60 } else { 0 };
     let file = Scenario::begin(alloc, inner, left)?.write(steps)?;
     match dice {
-        3 | 8 => inspect(alloc, Inspection::Stale, &file, digest),
-        4 | 5 | 9 => inspect(alloc, Inspection::Draw, &file, digest),
-        6 | 10 => inspect(alloc, Inspection::Check, &file, digest),
-        7 | 11 => inspect(alloc, Inspection::Show, &file, digest),
+        3 | 8 => answer(alloc, Which::Stale, &file, digest),
+        4 | 5 | 9 => answer(alloc, Which::Draw, &file, digest),
+        6 | 10 => answer(alloc, Which::Check, &file, digest),
+        7 | 11 => answer(alloc, Which::Show, &file, digest),
         _ => answer(alloc, Which::Run, &file, digest),
     }
     Ok(())
