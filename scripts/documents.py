@@ -6,6 +6,7 @@
 - Sources: a block ```rust, ```c or ```antt is a text of one source file, of which `..` stands for what is left out.
 - Links: each file and each heading that a page of the repository links to is there.
 - Help: of each command the wrapper ./svsim and PROGRAM tell the same, and both list the commands alike. PROGRAM has CHANGELOG's version.
+- Formats: docs/FORMAT.md has the keys, the steps and the refusals of the code, each where it belongs, and no others.
 - Sizes: README's words and lines, and the bytes of the pages for users.
 
 The last line is `N passed, M failed`.
@@ -145,6 +146,35 @@ def check_help(program):
     yield printed_by(program, "--version") == f"svsim {version}\n", f"--version: the program's is not CHANGELOG's {version}"
 
 
+def listed_in(source, name):
+    """The texts of a list of the code."""
+    return set(re.findall(r'"([^"]*)"', re.search(rf"const {name}: \[&str; \d+\] = \[(.*?)\];", text_of(source), re.S)[1]))
+
+
+def cells(section, head):
+    """The first cells of the tables of a section of FORMAT whose first head this is, taken apart at commas between code."""
+    part = re.search(rf"(?ms)^## {re.escape(section)}\n(.*?)(?=^## |\Z)", text_of("docs/FORMAT.md"))[1]
+    for table in re.findall(rf"(?m)^\| {head} \|.*\n\|[-|]+\n((?:\|.*\n)*)", part):
+        for row in table.splitlines():
+            yield from re.findall(r"`([^`]*)`", row.split(" | ")[0])
+
+
+def check_formats():
+    keys, forms = "crates/files/src/known_keys.rt", "crates/checks/src/forms.rt"
+    run, live, walk = (set(cells(f"A file for `{command}`", "key")) for command in ("run", "live", "walk"))
+    yield run == listed_in(keys, "RUN_KEYS"), "FORMAT has other keys of run than the code"
+    yield run - {"steps"} | live == listed_in(keys, "LIVE_KEYS"), "FORMAT has other keys of live than the code"
+    yield walk == listed_in(keys, "WALK_KEYS"), "FORMAT has other keys of walk than the code"
+    steps = set(cells("A file for `run`", "step"))
+    yield steps == listed_in(forms, "RUN_FORMS"), "FORMAT has other steps of run than the code"
+    own = {f"H {form}" for form in cells("A file for `live`", "step")}
+    told = re.search(r"The steps are ([^.]*?) as for `run`", text_of("docs/FORMAT.md"))[1]
+    shared = {form for form in steps if form.split()[1] in re.findall(r"`(\w+)`", told)}
+    yield own | shared == listed_in(forms, "LIVE_FORMS"), "FORMAT has other steps of live than the code"
+    refusals = set(re.findall(r"(?m)^    ([A-Z]\w*),", text_of("crates/history/src/refusal.rt")))
+    yield set(cells("The refusals", "refusal")) == refusals, "FORMAT has other refusals than the code"
+
+
 def check_sizes(pages):
     readme = text_of("README.md")
     words, lines = len(readme.split()), readme.count("\n")
@@ -164,6 +194,7 @@ def checks(program):
     for page in pages:
         yield from check_links(page)
     yield from check_help(program)
+    yield from check_formats()
     yield from check_sizes(pages)
 
 
