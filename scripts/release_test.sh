@@ -132,7 +132,7 @@ judge 'BUILD has the commit' 1 "$(grep -c "^commit $(git -C "$top" rev-parse HEA
 judge 'BUILD has the toolchain' 1 "$(grep -c -x "$(rt version)" "$root/BUILD")"
 judge 'BUILD has what the gate printed last' '    rt: all proved|    8 passed, 0 failed|' "$(grep '^    ' "$root/BUILD" | tr '\n' '|')"
 judge 'the version' "$(cat "$root/BUILD")" "$(bare "$root/bin/svsim" --version)"
-judge 'the tour' 3 "$(cd / && bare "$root/bin/svsim" tour | grep -c '^\$ ./svsim ')"
+judge 'the tour' 3 "$(cd / && bare "$root/bin/svsim" tour | grep -c '^\$ svsim [a-z]* /')"
 commands=$(bare "$root/bin/svsim" help | sed -n 's/^  \([a-z]*\) .*/\1/p' | tr '\n' ' ')
 judge 'the commands' 'run live walk stale show draw check watch tour help version ' "$commands"
 

@@ -247,6 +247,7 @@ says 'help of a release' 0 help ''
 judge 'it has nothing to prove' 0 "$(grep -c prove "$own/out")"
 says 'a proof of a release' 0 prove 'svsim: a release is proved already; svsim --version says from what'
 judge 'the tour of a release' 3 "$("$svsim" tour 2>&1 | grep -c '^released ')"
+judge 'and its calls' 3 "$("$svsim" tour 2>/dev/null | grep -c '^\$ svsim [a-z]* /')"
 judge 'a release calls no toolchain' no "$([ -e "$own/called" ] && echo yes || echo no)"
 echo "$passed passed, $failed failed"
 [ "$failed" = 0 ]
