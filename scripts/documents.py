@@ -159,18 +159,37 @@ def cells(section, head):
             yield from re.findall(r"`([^`]*)`", row.split(" | ")[0])
 
 
+def forms():
+    """How the steps of run, and those of live, are written, by the code's table."""
+    table = text_of("crates/steps/src/table.rt")
+    labels = dict(re.findall(r'Field::(\w+) => "(\w+)"', table))
+    written = {"run": set(), "live": set()}
+
+    def add(command, word, fields):
+        written[command].add(" ".join(["H", word, *(labels[field] for field in re.findall(r"Field::(\w+)", fields))]))
+
+    for kind, word, fields in re.findall(r'Row::(run|live|both)\(\s*"(\w+)",\s*&\[([^]]*)\],?\s*\)', table):
+        for command in written if kind == "both" else [kind]:
+            add(command, word, fields)
+    for word, run, live in re.findall(r'word: "(\w+)",\s*run: Some\(&\[([^]]*)\]\),\s*live: Some\(&\[([^]]*)\]\)', table):
+        add("run", word, run)
+        add("live", word, live)
+    return written["run"], written["live"]
+
+
 def check_formats():
-    keys, forms = "crates/files/src/known_keys.rt", "crates/checks/src/forms.rt"
+    keys = "crates/files/src/known_keys.rt"
     run, live, walk = (set(cells(f"A file for `{command}`", "key")) for command in ("run", "live", "walk"))
     yield run == listed_in(keys, "RUN_KEYS"), "FORMAT has other keys of run than the code"
     yield run - {"steps"} | live == listed_in(keys, "LIVE_KEYS"), "FORMAT has other keys of live than the code"
     yield walk == listed_in(keys, "WALK_KEYS"), "FORMAT has other keys of walk than the code"
     steps = set(cells("A file for `run`", "step"))
-    yield steps == listed_in(forms, "RUN_FORMS"), "FORMAT has other steps of run than the code"
+    of_run, of_live = forms()
+    yield steps == of_run, "FORMAT has other steps of run than the code"
     own = {f"H {form}" for form in cells("A file for `live`", "step")}
     told = re.search(r"The steps are ([^.]*?) as for `run`", text_of("docs/FORMAT.md"))[1]
     shared = {form for form in steps if form.split()[1] in re.findall(r"`(\w+)`", told)}
-    yield own | shared == listed_in(forms, "LIVE_FORMS"), "FORMAT has other steps of live than the code"
+    yield own | shared == of_live, "FORMAT has other steps of live than the code"
     refusals = set(re.findall(r"(?m)^    ([A-Z]\w*),", text_of("crates/history/src/refusal.rt")))
     yield set(cells("The refusals", "refusal")) == refusals, "FORMAT has other refusals than the code"
 

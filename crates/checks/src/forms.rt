@@ -1,111 +1,81 @@
 //! How the steps of each command are written.
+ghost use Rattle.std.specs.Prelude.{◌≤◌, length};
+
 use crate::commands::Command;
-use crate::split::word_at;
+use arrayvec::ArrayVec;
+use steps::{Field, Row, STEP_NAMES, StepName, WALK_FIELDS};
 
-/// The steps of `run`.
-const RUN_FORMS: [&str; 19] = [
-    "H begin MODE ACCESS VA",
-    "H load",
-    "H map PLACE PAGE PPN FLAGS",
-    "H unmap PLACE PAGE NAMED",
-    "H protect PLACE PAGE FLAGS NAMED",
-    "H flush SCOPE NAMED",
-    "H switch SPACE",
-    "H fence RS1 RS2",
-    "H post TICKET TO",
-    "H take FROM",
-    "H servefence",
-    "H ack",
-    "H ackself TICKET",
-    "H collect TICKET FROM",
-    "H finish TICKET",
-    "H close TO",
-    "H retire SPACE",
-    "H reclaim SPACE",
-    "H create SPACE ASID",
-];
+/// How a step is written.
+#[derive(Clone, Copy)]
+pub struct Form {
+    /// Whether the number of the hart stands first.
+    pub has_hart: bool,
+    /// The name, which then follows; the steps of `walk` have none.
+    pub name: Option<&'static str>,
+    /// What the words behind these are.
+    pub fields: &'static [Field],
+}
 
-/// The steps of `live`, as in the setup: in a script no hart stands before them.
-const LIVE_FORMS: [&str; 14] = [
-    "H translate MODE ACCESS VA",
-    "H map PLACE PAGE PPN FLAGS",
-    "H unmap PLACE PAGE NAMED",
-    "H protect PLACE PAGE FLAGS NAMED",
-    "H flush SCOPE NAMED",
-    "H switch SPACE",
-    "H fence RS1 RS2",
-    "H post TICKET TO",
-    "H serve FROM",
-    "H ackself TICKET",
-    "H collect TICKET",
-    "H finish TICKET",
-    "H close TO",
-    "H wait TICKET",
-];
+impl Form {
+    /// That of the steps of `walk`.
+    pub fn of_walk() -> Form {
+        Form {
+            has_hart: false,
+            name: None,
+            fields: &WALK_FIELDS,
+        }
+    }
 
-const RUN_NAMES: [&str; 19] = [
-    "begin",
-    "load",
-    "map",
-    "unmap",
-    "protect",
-    "flush",
-    "switch",
-    "fence",
-    "post",
-    "take",
-    "servefence",
-    "ack",
-    "ackself",
-    "collect",
-    "finish",
-    "close",
-    "retire",
-    "reclaim",
-    "create",
-];
+    /// That of the steps with this name in a file for `live`, or else for `run`.
+    pub fn of_name(command: Command, name: &[u8], has_hart: bool) -> Option<Form> {
+        let row = StepName::of(name)?.row();
+        let fields = fields_of(command, row)?;
+        Some(Form {
+            has_hart,
+            name: Some(row.word),
+            fields,
+        })
+    }
 
-const LIVE_NAMES: [&str; 14] = [
-    "translate",
-    "map",
-    "unmap",
-    "protect",
-    "flush",
-    "switch",
-    "fence",
-    "post",
-    "serve",
-    "ackself",
-    "collect",
-    "finish",
-    "close",
-    "wait",
-];
+    /// How many words stand before those of the fields.
+    fn before(self) -> usize {
+        usize::from(self.has_hart).saturating_add(usize::from(self.name.is_some()))
+    }
 
-/// The form of the steps of `walk`, which have no names.
-pub const WALK_FORM: &str = "MODE ACCESS ADDRESS";
+    /// What the word of this index is, `None` if it is the name or a word too many.
+    pub fn field_at(self, index: usize) -> Option<Field> {
+        if self.has_hart && index == 0 {
+            return Some(Field::Hart);
+        }
+        let before = self.before();
+        if index < before {
+            return None;
+        }
+        self.fields.get(index.saturating_sub(before)).copied()
+    }
 
-/// The names of the steps of `run` or else of `live`.
-pub fn names(command: Command) -> &'static [&'static str] {
+    /// How many words a step has.
+    pub fn count(self) -> usize {
+        self.before().saturating_add(self.fields.len())
+    }
+}
+
+/// What the words after the name are in a file for `live`, or else for `run`.
+fn fields_of(command: Command, row: Row) -> Option<&'static [Field]> {
     match command {
-        Command::Live => &LIVE_NAMES,
-        Command::Run | Command::Walk => &RUN_NAMES,
+        Command::Live => row.live,
+        Command::Run | Command::Walk => row.run,
     }
 }
 
-/// Whether a form is that of the steps with a name.
-fn is_named(form: &str, name: &str) -> bool {
-    match word_at(form, 1) {
-        Some(word) => word == name.as_bytes(),
-        None => false,
+/// The names of the steps of `live`, or else of `run`.
+pub fn names(command: Command) -> ArrayVec<&'static str, 22> {
+    let mut names = ArrayVec::new();
+    for (index, name) in STEP_NAMES.iter().enumerate() {
+        let row = name.row();
+        if fields_of(command, row).is_some() {
+            names.push(row.word);
+        }
     }
-}
-
-/// The form of the steps with this name, after the number of the hart.
-pub fn form_of(command: Command, name: &str) -> Option<&'static str> {
-    let forms: &'static [&'static str] = match command {
-        Command::Live => &LIVE_FORMS,
-        Command::Run | Command::Walk => &RUN_FORMS,
-    };
-    forms.iter().copied().find(|form| is_named(form, name))
+    names
 }

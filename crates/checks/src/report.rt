@@ -3,9 +3,10 @@ ghost use Rattle.std.specs.Prelude.{◌≡◌, ◌≤◌, ◌+◌, ◌||◌, [],
 ghost use Rattle.checks.specs.Shown.{sets_direction};
 ghost use Rattle.checks.specs.Told.{IsStillTrue, most_told};
 
+use crate::forms::Form;
 use files::Fault;
 use std::alloc::{AllocError, Global};
-use steps::StepFault;
+use steps::{Field, StepFault};
 
 /// The most faults that are reported.
 pub const MOST_TOLD: usize = 200;
@@ -26,6 +27,8 @@ pub enum Piece<'a> {
     Address(u64),
     Fault(&'a Fault),
     StepFault(StepFault),
+    /// How a step is written.
+    Form(Form),
 }
 
 /// Where a fault is: the number of the line of the file if it is known, and what the line that tells
@@ -106,16 +109,6 @@ impl Report {
         }
     }
 
-    /// A word between two texts, as one text.
-    pub fn joined(&mut self, before: &str, word: &str, after: &str) -> String
-        ensures { IsStillTrue self.old.is_out_of_memory self.new.is_out_of_memory }
-    {
-        let mut text = String::new(self.alloc);
-        let done = push_parts(&mut text, before, word, after);
-        self.note(done);
-        text
-    }
-
     /// Whether no more faults are reported.
     pub fn is_full(&self) -> bool
         ensures { result ≡ nat_le most_told (length self.now.lines.items) }
@@ -156,6 +149,7 @@ fn push_piece(text: &mut String, piece: Piece<'_>) -> Result<(), AllocError> {
         Piece::Address(number) => write!(text, "{number:#x}"),
         Piece::Fault(fault) => write!(text, "{fault}"),
         Piece::StepFault(fault) => write!(text, "{fault}"),
+        Piece::Form(form) => push_form(text, form),
     }
 }
 
@@ -180,8 +174,21 @@ fn line_text(alloc: Global, spot: Spot<'_>, what: &[Piece<'_>]) -> Result<String
     Ok(text)
 }
 
-fn push_parts(text: &mut String, before: &str, word: &str, after: &str) -> Result<(), AllocError> {
-    text.push_str(before)?;
-    text.push_str(word)?;
-    text.push_str(after)
+/// Adds how a step is written, as `H switch SPACE`.
+fn push_form(text: &mut String, form: Form) -> Result<(), AllocError> {
+    if form.has_hart {
+        text.push_str(Field::Hart.label())?;
+        text.push_str(" ")?;
+    }
+    let mut before = "";
+    if let Some(name) = form.name {
+        text.push_str(name)?;
+        before = " ";
+    }
+    for field in form.fields {
+        text.push_str(before)?;
+        text.push_str(field.label())?;
+        before = " ";
+    }
+    Ok(())
 }

@@ -17,20 +17,6 @@ pub fn word_at(text: &str, index: usize) -> Option<&[u8]> {
     }
 }
 
-/// How many words a text has.
-pub fn count_words(text: &str) -> usize {
-    let mut rest = text.as_bytes();
-    let mut count = 0_usize;
-    for _ in 0..text.len() {
-        match next_word(rest) {
-            Some((_, after)) => rest = after,
-            None => break,
-        }
-        count = count.saturating_add(1);
-    }
-    count
-}
-
 /// The number that a text of one word writes.
 pub fn number_of(text: &str) -> Option<u64> {
     match next_word(text.as_bytes()) {

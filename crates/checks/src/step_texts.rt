@@ -3,13 +3,13 @@ ghost use Rattle.checks.specs.Told.{IsStillTrue};
 ghost use Rattle.std.specs.Prelude.{◌≤◌};
 
 use crate::commands::Command;
-use crate::fields::{Field, field_of};
-use crate::forms::{WALK_FORM, form_of, names};
+use crate::fields::{expected, is_right};
+use crate::forms::{Form, names};
 use crate::near::nearest;
 use crate::report::{Piece, Report, Spot};
-use crate::split::{count_words, text_of, word_at};
+use crate::split::{text_of, word_at};
 use pte::Scheme;
-use steps::{StepFault, live_step_among, num, run_step_among, setup_step_among, walk_step};
+use steps::{Field, StepFault, live_step_among, num, run_step_among, setup_step_among, walk_step};
 
 /// The most words of a form.
 const MOST_WORDS: usize = 6;
@@ -91,7 +91,7 @@ impl Reader {
             StepFault::NotPage => self.tell_page(report, spot, form, text),
         };
         if !is_told {
-            let what = [Piece::StepFault(fault), WRITTEN, Piece::Text(form)];
+            let what = [Piece::StepFault(fault), WRITTEN, Piece::Form(form)];
             report.tell(spot, &what);
         }
     }
@@ -126,7 +126,7 @@ impl Reader {
         ensures { IsStillTrue report.old.is_out_of_memory report.new.is_out_of_memory }
     {
         let command = self.list.command();
-        if form_of(command, name).is_some() {
+        if Form::of_name(command, name.as_bytes(), false).is_some() {
             return false;
         }
         if matches!(self.list, List::Script(_)) && num(name.as_bytes()).is_some() {
@@ -139,63 +139,56 @@ impl Reader {
     }
 
     /// How a step of the name in a text is written.
-    fn form(&self, text: &str) -> &'static str {
+    fn form(&self, text: &str) -> Form {
         let Some(at) = self.list.name_at() else {
-            return WALK_FORM;
+            return Form::of_walk();
         };
         let name = word_at(text, at).unwrap_or(b"".as_slice());
-        let form = form_of(self.list.command(), text_of(name)).unwrap_or("");
-        match self.list {
-            List::Script(_) => form.strip_prefix("H ").unwrap_or(form),
-            List::Walk | List::Run | List::Setup => form,
-        }
+        Form::of_name(self.list.command(), name, at == 1).unwrap_or(Form::of_walk())
     }
 
     /// Reports the first word that is wrong, missing or too many. Answers whether one is.
-    fn tell_word(&self, report: &mut Report, spot: Spot<'_>, form: &'static str, text: &str) -> bool
+    fn tell_word(&self, report: &mut Report, spot: Spot<'_>, form: Form, text: &str) -> bool
         ensures { IsStillTrue report.old.is_out_of_memory report.new.is_out_of_memory }
     {
         for index in 0..MOST_WORDS {
-            let Some(name) = word_at(form, index) else {
-                break;
-            };
-            let is_name = self.list.name_at() == Some(index);
-            let word = word_at(text, index).map(|word| text_of(word));
-            if !is_name && self.tell_field(report, spot, form, text_of(name), word) {
-                return true;
+            if let Some(field) = form.field_at(index) {
+                let word = word_at(text, index).map(|word| text_of(word));
+                if self.tell_field(report, spot, form, field, word) {
+                    return true;
+                }
             }
         }
-        let Some(word) = word_at(text, count_words(form)) else {
+        let Some(word) = word_at(text, form.count()) else {
             return false;
         };
         let (word, is) = (
             Piece::Word(text_of(word)),
             Piece::Text(" is a word too many"),
         );
-        report.tell(spot, &[word, is, WRITTEN, Piece::Text(form)]);
+        report.tell(spot, &[word, is, WRITTEN, Piece::Form(form)]);
         true
     }
 
     /// Reports what is wrong with the word of a field. Answers whether something is.
-    fn tell_field<'a>(
+    fn tell_field(
         &self,
         report: &mut Report,
         spot: Spot<'_>,
-        form: &'a str,
-        name: &'a str,
-        word: Option<&'a str>,
+        form: Form,
+        field: Field,
+        word: Option<&str>,
     ) -> bool
         ensures { IsStillTrue report.old.is_out_of_memory report.new.is_out_of_memory }
     {
-        let field = field_of(name);
-        let expected = Piece::Text(field.expected());
-        let (name, form) = (Piece::Text(name), Piece::Text(form));
+        let expected = Piece::Text(expected(field));
+        let (name, form) = (Piece::Text(field.label()), Piece::Form(form));
         let Some(word) = word else {
             let is = Piece::Text(" is missing: ");
             report.tell(spot, &[name, is, expected, WRITTEN, form]);
             return true;
         };
-        if field.is_right(report, self.scheme, word) {
+        if is_right(field, self.scheme, word) {
             return false;
         }
         let (at, is) = (Piece::Text(" where "), Piece::Text(" is expected: "));
@@ -207,7 +200,7 @@ impl Reader {
     }
 
     /// Reports the first hart that is named and does not exist. Answers whether there is one.
-    fn tell_hart(&self, report: &mut Report, spot: Spot<'_>, form: &str, text: &str) -> bool
+    fn tell_hart(&self, report: &mut Report, spot: Spot<'_>, form: Form, text: &str) -> bool
         ensures { IsStillTrue report.old.is_out_of_memory report.new.is_out_of_memory }
     {
         for index in 0..MOST_WORDS {
@@ -222,9 +215,9 @@ impl Reader {
     }
 
     /// The first hart of the word of this index that does not exist.
-    fn absent_at(&self, form: &str, text: &str, index: usize) -> Option<u64> {
-        match (word_at(form, index), word_at(text, index)) {
-            (Some(name), Some(word)) => self.absent_in(field_of(text_of(name)), word),
+    fn absent_at(&self, form: Form, text: &str, index: usize) -> Option<u64> {
+        match (form.field_at(index), word_at(text, index)) {
+            (Some(field), Some(word)) => self.absent_in(field, word),
             (Some(_), None) => None,
             (None, _) => None,
         }
@@ -233,19 +226,18 @@ impl Reader {
     /// The first hart of a word that does not exist.
     fn absent_in(&self, field: Field, word: &[u8]) -> Option<u64> {
         match field {
-            Field::Hart => num(word).filter(|hart| *hart >= u64::from(self.harts)),
+            Field::Hart | Field::From | Field::To => num(word).filter(|hart| *hart >= u64::from(self.harts)),
             Field::Named => absent_of(word, self.harts),
             _ => None,
         }
     }
 
     /// Reports why the address of the page is none. Answers whether there is a page.
-    fn tell_page(&self, report: &mut Report, spot: Spot<'_>, form: &str, text: &str) -> bool
+    fn tell_page(&self, report: &mut Report, spot: Spot<'_>, form: Form, text: &str) -> bool
         ensures { IsStillTrue report.old.is_out_of_memory report.new.is_out_of_memory }
     {
         for index in 0..MOST_WORDS {
-            let name = word_at(form, index).unwrap_or(b"".as_slice());
-            if matches!(field_of(text_of(name)), Field::Page) {
+            if matches!(form.field_at(index), Some(Field::Page)) {
                 let word = word_at(text, index).unwrap_or(b"".as_slice());
                 let why = Piece::Text(wrong_base(self.scheme, word));
                 let is = Piece::Text(" is no page: ");
@@ -266,14 +258,14 @@ fn tell_no_step(report: &mut Report, spot: Spot<'_>, command: Command, name: &st
         Command::Run | Command::Walk => Command::Live,
     };
     let (word, this) = (Piece::Word(name), Piece::Text(command.name()));
-    if form_of(other, name).is_some() {
+    if Form::of_name(other, name.as_bytes(), false).is_some() {
         let other = Piece::Text(other.name());
         let (is, not) = (Piece::Text(" is a step of "), Piece::Text(", not of "));
         report.tell(spot, &[word, is, other, not, this]);
         return;
     }
     let is = Piece::Text(" is no step of ");
-    match nearest(name, names(command)) {
+    match nearest(name, names(command).as_slice()) {
         Some(meant) => {
             let (perhaps, meant) = (Piece::Text("; perhaps "), Piece::Text(meant));
             report.tell(spot, &[word, is, this, perhaps, meant]);

@@ -20,7 +20,7 @@ pub const LEGEND_HEIGHT: u64 = 196;
 pub const FIRST_COLUMN: u32 = 52;
 
 /// How wide a picture is at least: as wide as the legend.
-pub const LEAST_WIDTH: u64 = 620;
+pub const LEAST_WIDTH: u64 = 690;
 
 const MARGIN: u64 = 10;
 

@@ -11,7 +11,7 @@ use Rattle.steps.specs.declared.fault.StepFault.{StepFault}
 use Rattle.steps.specs.declared.fault.StepFault.TheVariants.{NotStep}
 use Rattle.steps.specs.declared.step.WalkStep.{WalkStep}
 use Rattle.steps.specs.LiveSteps.{live_step_in, setup_step_in}
-use Rattle.steps.proofs.LiveLemmas.{writes-setup}
+use Rattle.steps.proofs.StepTexts.{setup_hart_there}
 use Rattle.steps.specs.RunStep.{step_among}
 use Rattle.steps.specs.Step.{walk_step_of}
 use Rattle.files.specs.Faults.{Failure, wrong_script, wrong_step, ◌>>=◌}
@@ -107,7 +107,7 @@ setup_end scheme harts ts front so_far = all_read (setup_step_in scheme harts) t
 
 -- the hart of a step that was read exists
 pub hart_there : (scheme : Scheme) (harts : ℕ) (text : List ℕ) (step : ℕ × LiveStep) → setup_step_in scheme harts text ≡ Ok step → step.0 < harts
-hart_there scheme harts text (hart, step) h = (writes-setup scheme harts text hart step h).number.1
+hart_there scheme harts text (hart, step) h = setup_hart_there scheme harts text hart step h
 
 -- ---- the loop over a script
 

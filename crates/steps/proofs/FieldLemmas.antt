@@ -23,7 +23,7 @@ use Rattle.steps.specs.declared.fields.PageWord.{PageWord}
 use Rattle.steps.specs.Fields.{bits_of, flag_of, flags_of, has_size, is_page, sized_page_of, number_below, page_after, page_at, page_of, place_of, register_of, scope_of, space_of, with_letters}
 use Rattle.steps.specs.Grammar.{WritesNumber}
 use Rattle.steps.specs.Num.{num_of}
-use Rattle.steps.specs.RunGrammar.{AddLetters, size_text, WritesBelow, WritesFlags, WritesPage, WritesPlace, WritesRegister, WritesScope}
+use Rattle.steps.specs.StepGrammar.{AddLetters, size_text, WritesBelow, WritesFlags, WritesPage, WritesPlace, WritesRegister, WritesScope}
 use Rattle.steps.proofs.GrammarLemmas.{num_of-writes, writes-num_of}
 
 -- ---- numbers below a limit

@@ -1,50 +1,113 @@
 -- Where there are more harts a text says the same, unless it named one that did not exist; and then
 -- it is a step still.
 use Rattle.pte.specs.declared.scheme.Scheme.{Scheme}
-use Rattle.std.proofs.Common.{◌≡◌, ◌⊎◌, ℕ, ◌<◌, ◌≤◌, Bool, true, false, nat_lt, List, [], ◌∷◌, Option, Some, None, Result, Ok, Err, refl, sym, ◌∙◌, inl, inr, arith, if◌then◌else◌}
+use Rattle.std.proofs.Common.{◌≡◌, ◌⊎◌, ℕ, ◌<◌, ◌≤◌, Bool, true, false, nat_lt, List, [], ◌∷◌, Option, Some, None, Result, Ok, Err, refl, sym, ap, ◌∙◌, inl, inr, arith, if◌then◌else◌}
 use Rattle.std.proofs.lemmas.Bool.{cases_lt}
 use Rattle.std.proofs.lemmas.Bool.Decides.{nat_tests}
-use Rattle.pte.specs.Address.{Span}
-use Rattle.shoot.specs.HartSet.{byte_of}
 use Rattle.history.specs.declared.live_step.LiveStep.{LiveStep}
 use Rattle.steps.specs.declared.fault.StepFault.{StepFault}
 use Rattle.steps.specs.declared.fault.StepFault.TheVariants.{NotStep, NoSuchHart, NotPage}
-use Rattle.steps.specs.declared.fields.NamedHarts.{NamedHarts}
-use Rattle.steps.specs.declared.fields.PageWord.{PageWord}
-use Rattle.steps.specs.declared.spelled.Spelled.{Spelled}
-use Rattle.steps.specs.declared.spelled.Spelled.TheVariants.{Begin, Translate, Load, Edit, Flush, ServeFence, Retire, Reclaim, Create, Pair, Collect, Wait, Ack}
-use Rattle.steps.specs.declared.spelled.EditStep.TheVariants.{Map, Unmap, Protect}
-use Rattle.steps.specs.declared.spelled.PairStep.TheVariants.{Post, CollectFrom, Take, Serve, Close}
-use Rattle.steps.specs.Fields.{among, are_there, is_page, named_among, page_at}
-use Rattle.steps.specs.LiveSteps.{live_step_by, live_step_in, setup_of_words, setup_step_by, setup_step_in}
+use Rattle.steps.specs.declared.parts.Parts.{Parts}
+use Rattle.steps.specs.declared.table.Field.{Field}
+use Rattle.steps.specs.declared.table.Field.TheVariants as fields
+use Rattle.steps.specs.declared.table.StepName.{StepName}
+use Rattle.steps.specs.declared.table.StepName.TheVariants.{Begin, Translate, Load, Map, Unmap, Protect, Flush, Switch, Fence, Post, Take, Serve, ServeFence, Ack, AckSelf, Collect, Finish, Close, Wait, Retire, Reclaim, Create}
+use Rattle.steps.specs.Fields.{among, are_there, hart_in, named_among, named_in, named_of, page_in, place_of, register_of, scope_of, space_of, ticket_of, asid_of, flags_of}
+use Rattle.steps.specs.Accesses.{access_of, ctx_of}
+use Rattle.steps.specs.LiveSteps.{live_step_in, live_words, setup_step_in, setup_words}
 use Rattle.steps.specs.Num.{num_of}
-use Rattle.steps.specs.RunStep.{event_of, run_step_by, step_among, step_in}
-use Rattle.steps.specs.Spelling.{is_of_live, is_of_run, spelled_of}
+use Rattle.steps.specs.Reading.{at_least, followed, read, read_each, read_hart, read_step}
+use Rattle.steps.specs.RunStep.{step_among}
 use Rattle.steps.specs.StepFaults.{asked, ◌>>=◌}
+use Rattle.steps.specs.Table.{event_of, live_fields, live_of, name_of, nothing, run_fields}
 use Rattle.steps.specs.Words.{words_of}
 
 abbrev Reading : Type 0 → Type 0
 Reading X = Result X StepFault
 
--- a step, if perhaps a faulty one
-abbrev IsStep : {X : Type 0} → Reading X → Type 0
-IsStep r = r ≡ Err NotStep → ⊥
+-- whether a text is no step
+abbrev is_not_step : StepFault → Bool
+is_not_step NotStep = true
+is_not_step NoSuchHart = false
+is_not_step NotPage = false
+
+abbrev is_none : {X : Type 0} → Reading X → Bool
+is_none (Ok x) = false
+is_none (Err fault) = is_not_step fault
+
+none_is : {X : Type 0} (r : Reading X) → is_none r ≡ true → r ≡ Err NotStep
+none_is (Ok x) h = cc
+none_is (Err NotStep) h = refl
+none_is (Err NoSuchHart) h = cc
+none_is (Err NotPage) h = cc
 
 -- the second, of more harts, is the first, unless that names a hart that does not exist
 abbrev Keeps : {X : Type 0} → Reading X → Reading X → Type 0
-Keeps r s = (s ≡ r) ⊎ ((r ≡ Err NoSuchHart) × IsStep s)
+Keeps r s = (s ≡ r) ⊎ ((r ≡ Err NoSuchHart) × (is_none s ≡ false))
 
-asked_keeps : {A X : Type 0} (o : Option A) (f g : A → Reading X) → ((x : A) → Keeps (f x) (g x)) → Keeps (asked o >>= f) (asked o >>= g)
-asked_keeps None f g h = inl refl
-asked_keeps (Some x) f g h = h x
+same_none : {X : Type 0} (r s : Reading X) → Keeps r s → is_none s ≡ is_none r
+same_none r s (inl same) = ap is_none same
+same_none r s (inr (absent, is)) = is ∙ sym (ap is_none absent)
 
--- a test that passes with the one number of harts passes with the other
-if_there : {A X : Type 0} (x : A) (f g : A → Reading X) (b b' : Bool) → (b ≡ true → b' ≡ true) → Keeps (f x) (g x) → IsStep (g x)
-    → Keeps ((if b then Ok x else Err NoSuchHart) >>= f) ((if b' then Ok x else Err NoSuchHart) >>= g)
-if_there x f g true true t h k = h
-if_there x f g true false t h k = let wrong = t refl in cc
-if_there x f g false true t h k = inr (refl, k)
-if_there x f g false false t h k = inl refl
+-- both are read, or have one fault
+abbrev Alike : {X Y : Type 0} → Reading X → Reading Y → Type 0
+Alike (Ok x) (Ok y) = Unit {0}
+Alike (Ok x) (Err f) = ⊥
+Alike (Err e) (Ok y) = ⊥
+Alike (Err e) (Err f) = e ≡ f
+
+alike_none : {X : Type 0} (r s : Reading X) → Alike r s → is_none r ≡ is_none s
+alike_none (Ok x) (Ok y) a = refl
+alike_none (Ok x) (Err f) a = absurd a
+alike_none (Err e) (Ok y) a = absurd a
+alike_none (Err e) (Err f) a = ap is_not_step a
+
+-- ---- the fault of a word does not depend on what was read before it
+
+put_alike : {A : Type 0} (r : Reading A) (g h : A → Parts) → Alike (r >>= λ x. Ok (g x)) (r >>= λ x. Ok (h x))
+put_alike (Ok x) g h = tt
+put_alike (Err e) g h = refl
+
+field_alike : (scheme : Scheme) (n : ℕ) (field : Field) (word : List ℕ) (p q : Parts) → Alike (read scheme n field word p) (read scheme n field word q)
+field_alike scheme n fields.Hart word p q = put_alike (hart_in n word) _ _
+field_alike scheme n fields.Mode word p q = put_alike (asked (ctx_of word)) _ _
+field_alike scheme n fields.Access word p q = put_alike (asked (access_of word)) _ _
+field_alike scheme n fields.Va word p q = put_alike (asked (num_of word)) _ _
+field_alike scheme n fields.Address word p q = put_alike (asked (num_of word)) _ _
+field_alike scheme n fields.Place word p q = put_alike (asked (place_of word)) _ _
+field_alike scheme n fields.Page word p q = put_alike (page_in scheme word) _ _
+field_alike scheme n fields.Ppn word p q = put_alike (asked (num_of word)) _ _
+field_alike scheme n fields.Flags word p q = put_alike (asked (flags_of word)) _ _
+field_alike scheme n fields.Named word p q = put_alike (named_in n word) _ _
+field_alike scheme n fields.Scope word p q = put_alike (asked (scope_of word)) _ _
+field_alike scheme n fields.Rs1 word p q = put_alike (asked (register_of word)) _ _
+field_alike scheme n fields.Rs2 word p q = put_alike (asked (register_of word)) _ _
+field_alike scheme n fields.Space word p q = put_alike (asked (space_of word)) _ _
+field_alike scheme n fields.Asid word p q = put_alike (asked (asid_of word)) _ _
+field_alike scheme n fields.Ticket word p q = put_alike (asked (ticket_of word)) _ _
+field_alike scheme n fields.From word p q = put_alike (hart_in n word) _ _
+field_alike scheme n fields.To word p q = put_alike (hart_in n word) _ _
+
+at_least_alike : {X : Type 0} (e f : StepFault) (r s : Reading X) → e ≡ f → Alike r s → Alike (at_least e r) (at_least f s)
+at_least_alike e f (Ok x) (Ok y) same a = same
+at_least_alike e f (Ok x) (Err g) same a = absurd a
+at_least_alike e f (Err g) (Ok y) same a = absurd a
+at_least_alike e f (Err g) (Err h) same a = rw (same, a) refl
+
+followed_alike : {X : Type 0} (r s : Reading Parts) (p q : Parts) (k : Parts → Reading X) → Alike r s → ((x y : Parts) → Alike (k x) (k y)) → Alike (followed r p k) (followed s q k)
+followed_alike (Ok x) (Ok y) p q k a h = h x y
+followed_alike (Ok x) (Err f) p q k a h = absurd a
+followed_alike (Err e) (Ok y) p q k a h = absurd a
+followed_alike (Err e) (Err f) p q k a h = at_least_alike e f (k p) (k q) a (h p q)
+
+each_alike : (scheme : Scheme) (n : ℕ) (fields : List Field) (words : List (List ℕ)) (p q : Parts) → Alike (read_each scheme n fields words p) (read_each scheme n fields words q)
+each_alike scheme n [] [] p q = tt
+each_alike scheme n [] (word ∷ words) p q = refl
+each_alike scheme n (field ∷ fields) [] p q = refl
+each_alike scheme n (field ∷ fields) (word ∷ words) p q =
+    followed_alike (read scheme n field word p) (read scheme n field word q) p q (λ s. read_each scheme n fields words s) (field_alike scheme n field word p q) (each_alike scheme n fields words)
+
+-- ---- more harts
 
 lt_more : (m n hart : ℕ) → m ≤ n → nat_lt hart m ≡ true → nat_lt hart n ≡ true
 lt_more m n hart less h = grind (arith, nat_tests)
@@ -53,171 +116,265 @@ there_more : (m n : ℕ) (greatest : Option ℕ) → m ≤ n → are_there m gre
 there_more m n None less h = refl
 there_more m n (Some hart) less h = lt_more m n hart less h
 
--- ---- what follows once each word is read
+-- a test that passes with the one number of harts passes with the other
+if_there : {A : Type 0} (x : A) (b b' : Bool) → (b ≡ true → b' ≡ true) → Keeps (if b then Ok x else Err NoSuchHart) (if b' then Ok x else Err NoSuchHart)
+if_there x true true t = inl refl
+if_there x true false t = let wrong = t refl in cc
+if_there x false true t = inr (refl, refl)
+if_there x false false t = inl refl
 
-read_is_step : {X : Type 0} (x : X) → IsStep (Ok x)
-read_is_step x e = cc
+asked_keeps : {A X : Type 0} (o : Option A) (f g : A → Reading X) → ((x : A) → Keeps (f x) (g x)) → Keeps (asked o >>= f) (asked o >>= g)
+asked_keeps None f g h = inl refl
+asked_keeps (Some x) f g h = h x
 
-there_is_step : {A X : Type 0} (x : A) (f : A → Reading X) (fault : StepFault) (b : Bool) → IsStep {X = X} (Err fault) → IsStep (f x) → IsStep ((if b then Ok x else Err fault) >>= f)
-there_is_step x f fault true other h = h
-there_is_step x f fault false other h = other
+bind_step : {A X : Type 0} (r : Reading A) (f : A → Reading X) → is_none r ≡ false → ((x : A) → is_none (f x) ≡ false) → is_none (r >>= f) ≡ false
+bind_step (Ok x) f h k = k x
+bind_step (Err NotStep) f h k = cc
+bind_step (Err NoSuchHart) f h k = refl
+bind_step (Err NotPage) f h k = refl
 
-no_hart_is_step : {X : Type 0} → IsStep {X = X} (Err NoSuchHart)
-no_hart_is_step e = cc
+bind_keeps : {A X : Type 0} (r s : Reading A) (f : A → Reading X) → Keeps r s → ((x : A) → is_none (f x) ≡ false) → Keeps (r >>= f) (s >>= f)
+bind_keeps r s f (inl same) k = inl (ap (λ x. x >>= f) same)
+bind_keeps r s f (inr (absent, is)) k = inr (ap (λ x. x >>= f) absent, bind_step s f is k)
 
-no_page_is_step : {X : Type 0} → IsStep {X = X} (Err NotPage)
-no_page_is_step e = cc
+at_least_hart : {X : Type 0} (r : Reading X) → is_none r ≡ false → at_least NoSuchHart r ≡ Err NoSuchHart
+at_least_hart (Ok x) h = refl
+at_least_hart (Err NotStep) h = cc
+at_least_hart (Err NoSuchHart) h = refl
+at_least_hart (Err NotPage) h = refl
 
-abbrev span_of : PageWord → Span
-span_of word = record { base = word.base; size = word.size }
+at_least_step : {X : Type 0} (e : StepFault) (r : Reading X) → is_not_step e ≡ false → is_none r ≡ false → is_none (at_least e r) ≡ false
+at_least_step e (Ok x) g h = g
+at_least_step e (Err NotStep) g h = cc
+at_least_step NotStep (Err NoSuchHart) g h = g
+at_least_step NoSuchHart (Err NoSuchHart) g h = refl
+at_least_step NotPage (Err NoSuchHart) g h = refl
+at_least_step NotStep (Err NotPage) g h = g
+at_least_step NoSuchHart (Err NotPage) g h = refl
+at_least_step NotPage (Err NotPage) g h = refl
+
+at_least_none : {X : Type 0} (r : Reading X) → at_least NotStep r ≡ Err NotStep
+at_least_none (Ok x) = refl
+at_least_none (Err f) = refl
+
+at_least_keeps : {X : Type 0} (e : StepFault) (r s : Reading X) → Keeps r s → Keeps (at_least e r) (at_least e s)
+at_least_keeps e r s (inl same) = inl (ap (at_least e) same)
+at_least_keeps NotStep r s (inr other) = inl (at_least_none s ∙ sym (at_least_none r))
+at_least_keeps NoSuchHart r s (inr (absent, is)) = inl (at_least_hart s is ∙ sym (ap (at_least NoSuchHart) absent))
+at_least_keeps NotPage r s (inr (absent, is)) = inr (ap (at_least NotPage) absent, at_least_step NotPage s refl is)
+
+-- what follows a hart that did not exist
+after_absent : {X : Type 0} (r s : Reading X) (b : Bool) → is_none r ≡ b → is_none s ≡ b → (t : Reading X) → is_none t ≡ is_none s → Keeps (at_least NoSuchHart r) t
+after_absent r s true is same t alike = inl (none_is t (alike ∙ same) ∙ sym (ap (at_least NoSuchHart) (none_is r is)))
+after_absent r s false is same t alike = inr (at_least_hart r is, alike ∙ same)
+
+graver_none : {X : Type 0} (e : StepFault) (r : Reading X) → is_not_step e ≡ false → is_none (at_least e r) ≡ is_none r
+graver_none NotStep r h = cc
+graver_none NoSuchHart (Ok x) h = refl
+graver_none NoSuchHart (Err NotStep) h = refl
+graver_none NoSuchHart (Err NoSuchHart) h = refl
+graver_none NoSuchHart (Err NotPage) h = refl
+graver_none NotPage (Ok x) h = refl
+graver_none NotPage (Err f) h = refl
+
+followed_keeps : {X : Type 0} (r s : Reading Parts) (p : Parts) (k l : Parts → Reading X) → Keeps r s → ((x : Parts) → Keeps (k x) (l x)) → ((x y : Parts) → Alike (l x) (l y))
+    → Keeps (followed r p k) (followed s p l)
+followed_keeps {X} r s p k l (inl same) h a = rw same (by_first r)
+  where
+    by_first : (r : Reading Parts) → Keeps (followed r p k) (followed r p l)
+    by_first (Ok x) = h x
+    by_first (Err e) = at_least_keeps e (k p) (l p) (h p)
+followed_keeps {X} r s p k l (inr (absent, is)) h a = rw absent (by_second s is)
+  where
+    none : is_none (l p) ≡ is_none (k p)
+    none = same_none (k p) (l p) (h p)
+
+    by_second : (s : Reading Parts) → is_none s ≡ false → Keeps (at_least NoSuchHart (k p)) (followed s p l)
+    by_second (Ok y) is = after_absent (k p) (l p) (is_none (k p)) refl none (l y) (alike_none (l y) (l p) (a y p))
+    by_second (Err e) is = after_absent (k p) (l p) (is_none (k p)) refl none (at_least e (l p)) (graver_none e (l p) is)
 
 module _ (scheme : Scheme) (m n : ℕ) (less : m ≤ n) where
-  -- what is left of a step once its hart exists
-  hart_step : {X : Type 0} (hart : ℕ) (f : ℕ → X) → IsStep (among n hart >>= λ h. Ok (f h))
-  hart_step hart f = there_is_step hart (λ h. Ok (f h)) NoSuchHart (nat_lt hart n) no_hart_is_step (read_is_step (f hart))
+  hart_keeps : (word : List ℕ) → Keeps (hart_in m word) (hart_in n word)
+  hart_keeps word = asked_keeps (num_of word) (among m) (among n) (λ hart. if_there hart (nat_lt hart m) (nat_lt hart n) (lt_more m n hart less))
 
-  page_step : {X : Type 0} (word : PageWord) (f : Span → X) → IsStep (page_at scheme word >>= λ s. Ok (f s))
-  page_step word f = there_is_step (span_of word) (λ s. Ok (f s)) NotPage (is_page scheme word) no_page_is_step (read_is_step (f (span_of word)))
+  named_keeps : (word : List ℕ) → Keeps (named_in m word) (named_in n word)
+  named_keeps word =
+      asked_keeps (named_of word) (named_among m) (named_among n) (λ named. if_there _ (are_there m named.greatest) (are_there n named.greatest) (there_more m n named.greatest less))
 
-  named_step : {X : Type 0} (named : NamedHarts) (f : ℕ → Reading X) → ((x : ℕ) → IsStep (f x)) → IsStep (named_among n named >>= f)
-  named_step named f h = there_is_step (byte_of named.set) f NoSuchHart (are_there n named.greatest) no_hart_is_step (h (byte_of named.set))
+  field_keeps : (field : Field) (word : List ℕ) (p : Parts) → Keeps (read scheme m field word p) (read scheme n field word p)
+  field_keeps fields.Hart word p = bind_keeps (hart_in m word) (hart_in n word) _ (hart_keeps word) (λ x. refl)
+  field_keeps fields.Named word p = bind_keeps (named_in m word) (named_in n word) _ (named_keeps word) (λ x. refl)
+  field_keeps fields.From word p = bind_keeps (hart_in m word) (hart_in n word) _ (hart_keeps word) (λ x. refl)
+  field_keeps fields.To word p = bind_keeps (hart_in m word) (hart_in n word) _ (hart_keeps word) (λ x. refl)
+  field_keeps fields.Mode word p = inl refl
+  field_keeps fields.Access word p = inl refl
+  field_keeps fields.Va word p = inl refl
+  field_keeps fields.Address word p = inl refl
+  field_keeps fields.Place word p = inl refl
+  field_keeps fields.Page word p = inl refl
+  field_keeps fields.Ppn word p = inl refl
+  field_keeps fields.Flags word p = inl refl
+  field_keeps fields.Scope word p = inl refl
+  field_keeps fields.Rs1 word p = inl refl
+  field_keeps fields.Rs2 word p = inl refl
+  field_keeps fields.Space word p = inl refl
+  field_keeps fields.Asid word p = inl refl
+  field_keeps fields.Ticket word p = inl refl
 
-  among_keeps : {X : Type 0} (hart : ℕ) (f g : ℕ → Reading X) → Keeps (f hart) (g hart) → IsStep (g hart) → Keeps (among m hart >>= f) (among n hart >>= g)
-  among_keeps hart f g h k = if_there hart f g (nat_lt hart m) (nat_lt hart n) (lt_more m n hart less) h k
+  each_keeps : (fields : List Field) (words : List (List ℕ)) (p : Parts) → Keeps (read_each scheme m fields words p) (read_each scheme n fields words p)
+  each_keeps [] [] p = inl refl
+  each_keeps [] (word ∷ words) p = inl refl
+  each_keeps (field ∷ fields) [] p = inl refl
+  each_keeps (field ∷ fields) (word ∷ words) p =
+      followed_keeps (read scheme m field word p) (read scheme n field word p) p (λ s. read_each scheme m fields words s) (λ s. read_each scheme n fields words s) (field_keeps field word p)
+      (each_keeps fields words) (each_alike scheme n fields words)
 
-  hart_keeps : {X : Type 0} (hart : ℕ) (f : ℕ → X) → Keeps (among m hart >>= λ h. Ok (f h)) (among n hart >>= λ h. Ok (f h))
-  hart_keeps hart f = among_keeps hart (λ h. Ok (f h)) (λ h. Ok (f h)) (inl refl) (read_is_step (f hart))
+-- ---- a table's step, which each row makes of whatever its words say
 
-  named_keeps : {X : Type 0} (named : NamedHarts) (f : ℕ → Reading X) → ((x : ℕ) → IsStep (f x)) → Keeps (named_among m named >>= f) (named_among n named >>= f)
-  named_keeps named f h = if_there (byte_of named.set) f f (are_there m named.greatest) (are_there n named.greatest) (there_more m n named.greatest less) (inl refl) (h (byte_of named.set))
+abbrev Makes : {X : Type 0} → (StepName → Option (List Field)) → (StepName → Parts → Option X) → Type 0
+Makes {X} fields_of makes = (name : StepName) (row : List Field) → fields_of name ≡ Some row → (p : Parts) → is_none (asked (makes name p)) ≡ false
 
-  -- ---- the steps of `run`
-
-  event_keeps : (hart : ℕ) (step : Spelled) → Keeps (event_of scheme m hart step) (event_of scheme n hart step)
-  event_keeps hart (Edit (Unmap place page named)) = named_keeps named _ (λ x. page_step page _)
-  event_keeps hart (Edit (Protect place page flags named)) = named_keeps named _ (λ x. page_step page _)
-  event_keeps hart (Flush scope named) = named_keeps named _ (λ x. read_is_step _)
-  event_keeps hart (Pair (Post ticket to)) = hart_keeps to _
-  event_keeps hart (Pair (CollectFrom ticket from)) = hart_keeps from _
-  event_keeps hart (Pair (Take from)) = hart_keeps from _
-  event_keeps hart (Pair (Close to)) = hart_keeps to _
-  event_keeps hart _ = inl refl
-
-  event_is_step : (hart : ℕ) (step : Spelled) → is_of_run step ≡ true → IsStep (event_of scheme n hart step)
-  event_is_step hart (Edit (Map place page ppn flags)) of = page_step page _
-  event_is_step hart (Edit (Unmap place page named)) of = named_step named _ (λ x. page_step page _)
-  event_is_step hart (Edit (Protect place page flags named)) of = named_step named _ (λ x. page_step page _)
-  event_is_step hart (Flush scope named) of = named_step named _ (λ x. read_is_step _)
-  event_is_step hart (Pair (Post ticket to)) of = hart_step to _
-  event_is_step hart (Pair (CollectFrom ticket from)) of = hart_step from _
-  event_is_step hart (Pair (Take from)) of = hart_step from _
-  event_is_step hart (Pair (Close to)) of = hart_step to _
-  event_is_step hart (Collect ticket) of = cc
-  event_is_step hart (Translate step) of = cc
-  event_is_step hart (Pair (Serve from)) of = cc
-  event_is_step hart (Wait ticket) of = cc
-  event_is_step hart _ of = read_is_step _
-
-  run_keeps : (hart : ℕ) (step : Spelled) → Keeps (run_step_by scheme m hart step) (run_step_by scheme n hart step)
-  run_keeps hart step = by_test (is_of_run step) refl
+module _ {X : Type 0} (fields_of : StepName → Option (List Field)) (makes : StepName → Parts → Option X) (made : Makes fields_of makes) (scheme : Scheme) where
+  bind_alike : (r s : Reading Parts) (f : Parts → Option X) → Alike r s → ((p : Parts) → is_none (asked (f p)) ≡ false) → Alike (r >>= λ p. asked (f p)) (s >>= λ p. asked (f p))
+  bind_alike (Ok p) (Ok q) f a h = by_options (f p) (f q) (h p) (h q)
     where
-      by_test : (b : Bool) → is_of_run step ≡ b
-          → Keeps (if b then among m hart >>= (λ h. event_of scheme m h step) else Err NotStep) (if b then among n hart >>= (λ h. event_of scheme n h step) else Err NotStep)
-      by_test true e = among_keeps hart _ _ (event_keeps hart step) (event_is_step hart step e)
-      by_test false e = inl refl
+      by_options : (o u : Option X) → is_none (asked o) ≡ false → is_none (asked u) ≡ false → Alike (asked o) (asked u)
+      by_options (Some x) (Some y) g h = tt
+      by_options None u g h = cc
+      by_options (Some x) None g h = cc
+  bind_alike (Ok p) (Err f) g a h = absurd a
+  bind_alike (Err e) (Ok q) g a h = absurd a
+  bind_alike (Err e) (Err f) g a h = a
 
-  step_keeps : (words : List (List ℕ)) → Keeps (step_in scheme m words) (step_in scheme n words)
-  step_keeps [] = inl refl
-  step_keeps (hart ∷ words) = asked_keeps (num_of hart) _ _ (λ h. asked_keeps (spelled_of scheme words) _ _ (λ s. run_keeps h s))
-
-  -- ---- the steps of `live`
-
-  live_by_keeps : (step : Spelled) → Keeps (live_step_by scheme m step) (live_step_by scheme n step)
-  live_by_keeps (Edit (Unmap place page named)) = named_keeps named _ (λ x. page_step page _)
-  live_by_keeps (Edit (Protect place page flags named)) = named_keeps named _ (λ x. page_step page _)
-  live_by_keeps (Flush scope named) = named_keeps named _ (λ x. read_is_step _)
-  live_by_keeps (Pair (Post ticket to)) = hart_keeps to _
-  live_by_keeps (Pair (Serve from)) = hart_keeps from _
-  live_by_keeps (Pair (Close to)) = hart_keeps to _
-  live_by_keeps _ = inl refl
-
-  live_keeps : (text : List ℕ) → Keeps (live_step_in scheme m text) (live_step_in scheme n text)
-  live_keeps text = asked_keeps (spelled_of scheme (words_of text)) _ _ live_by_keeps
-
-  live_is_step : (step : Spelled) → is_of_live step ≡ true → IsStep (live_step_by scheme n step)
-  live_is_step (Edit (Map place page ppn flags)) of = page_step page _
-  live_is_step (Edit (Unmap place page named)) of = named_step named _ (λ x. page_step page _)
-  live_is_step (Edit (Protect place page flags named)) of = named_step named _ (λ x. page_step page _)
-  live_is_step (Flush scope named) of = named_step named _ (λ x. read_is_step _)
-  live_is_step (Pair (Post ticket to)) of = hart_step to _
-  live_is_step (Pair (Serve from)) of = hart_step from _
-  live_is_step (Pair (Close to)) of = hart_step to _
-  live_is_step (Pair (CollectFrom ticket from)) of = cc
-  live_is_step (Begin step) of = cc
-  live_is_step Load of = cc
-  live_is_step ServeFence of = cc
-  live_is_step (Retire space) of = cc
-  live_is_step (Reclaim space) of = cc
-  live_is_step (Create space asid) of = cc
-  live_is_step (Pair (Take from)) of = cc
-  live_is_step Ack of = cc
-  live_is_step _ of = read_is_step _
-
-  -- a hart beside the step
-  beside : (hart : ℕ) (r : Reading LiveStep) → IsStep r → IsStep {X = ℕ × LiveStep} (r >>= λ s. Ok (hart, s))
-  beside hart (Ok s) h e = cc
-  beside hart (Err fault) h e = h (same_fault e)
+  step_alike : (n : ℕ) (words : List (List ℕ)) (p q : Parts) → Alike (read_step fields_of makes scheme n words p) (read_step fields_of makes scheme n words q)
+  step_alike n [] p q = refl
+  step_alike n (word ∷ words) p q = by_name (name_of word)
     where
-      same_fault : ◌≡◌ {A = Reading (ℕ × LiveStep)} (Err fault) (Err NotStep) → ◌≡◌ {A = Reading LiveStep} (Err fault) (Err NotStep)
-      same_fault e = cc
+      by_row : (name : StepName) (o : Option (List Field)) → fields_of name ≡ o
+          → Alike (asked o >>= λ row. read_each scheme n row words p >>= λ s. asked (makes name s)) (asked o >>= λ row. read_each scheme n row words q >>= λ s. asked (makes name s))
+      by_row name None is = refl
+      by_row name (Some row) is =
+          bind_alike (read_each scheme n row words p) (read_each scheme n row words q) (makes name) (each_alike scheme n row words p q) (made name row is)
 
-  beside_keeps : (hart : ℕ) (r s : Reading LiveStep) → Keeps r s → Keeps {X = ℕ × LiveStep} (r >>= λ x. Ok (hart, x)) (s >>= λ x. Ok (hart, x))
-  beside_keeps hart r s (inl same) = inl (rw same refl)
-  beside_keeps hart r s (inr (none, is)) = inr (rw none refl, beside hart s is)
+      by_name : (o : Option StepName)
+          → Alike (asked o >>= λ name. asked (fields_of name) >>= λ row. read_each scheme n row words p >>= λ s. asked (makes name s))
+          (asked o >>= λ name. asked (fields_of name) >>= λ row. read_each scheme n row words q >>= λ s. asked (makes name s))
+      by_name None = refl
+      by_name (Some name) = by_row name (fields_of name) refl
 
-  setup_by_keeps : (hart : ℕ) (step : Spelled) → Keeps (setup_step_by scheme m hart step) (setup_step_by scheme n hart step)
-  setup_by_keeps hart step = by_test (is_of_live step) refl
+  step_keeps : (m n : ℕ) → m ≤ n → (words : List (List ℕ)) (p : Parts) → Keeps (read_step fields_of makes scheme m words p) (read_step fields_of makes scheme n words p)
+  step_keeps m n less [] p = inl refl
+  step_keeps m n less (word ∷ words) p = asked_keeps (name_of word) _ _ (λ name. by_row name (fields_of name) refl)
     where
-      by_test : (b : Bool) → is_of_live step ≡ b
-          → Keeps {X = ℕ × LiveStep} (if b then among m hart >>= (λ h. live_step_by scheme m step >>= λ s. Ok (h, s)) else Err NotStep)
-          (if b then among n hart >>= (λ h. live_step_by scheme n step >>= λ s. Ok (h, s)) else Err NotStep)
-      by_test true e = among_keeps hart _ _ (beside_keeps hart _ _ (live_by_keeps step)) (beside hart _ (live_is_step step e))
-      by_test false e = inl refl
+      by_row : (name : StepName) (o : Option (List Field)) → fields_of name ≡ o
+          → Keeps (asked o >>= λ row. read_each scheme m row words p >>= λ s. asked (makes name s)) (asked o >>= λ row. read_each scheme n row words p >>= λ s. asked (makes name s))
+      by_row name None is = inl refl
+      by_row name (Some row) is = bind_keeps (read_each scheme m row words p) (read_each scheme n row words p) (λ s. asked (makes name s)) (each_keeps scheme m n less row words p) (made name row is)
 
-  setup_words_keep : (words : List (List ℕ)) → Keeps (setup_of_words scheme m words) (setup_of_words scheme n words)
-  setup_words_keep [] = inl refl
-  setup_words_keep (hart ∷ words) = asked_keeps (num_of hart) _ _ (λ h. asked_keeps (spelled_of scheme words) _ _ (λ s. setup_by_keeps h s))
+-- the hart's number, before what keeps its steps
+hart_first_keeps : {X : Type 0} (scheme : Scheme) (m n : ℕ) (k l : List (List ℕ) → Parts → Reading X) → m ≤ n → ((words : List (List ℕ)) (p : Parts) → Keeps (k words p) (l words p))
+    → ((words : List (List ℕ)) (p q : Parts) → Alike (l words p) (l words q)) → (words : List (List ℕ)) → Keeps (read_hart scheme m k words) (read_hart scheme n l words)
+hart_first_keeps scheme m n k l less keeps alike [] = inl refl
+hart_first_keeps scheme m n k l less keeps alike (word ∷ words) =
+    followed_keeps (read scheme m fields.Hart word nothing) (read scheme n fields.Hart word nothing) nothing (k words) (l words) (field_keeps scheme m n less fields.Hart word nothing) (keeps words)
+    (alike words)
+
+run_makes : Makes run_fields event_of
+run_makes Begin row is p = refl
+run_makes Translate row is p = cc
+run_makes Load row is p = refl
+run_makes Map row is p = refl
+run_makes Unmap row is p = refl
+run_makes Protect row is p = refl
+run_makes Flush row is p = refl
+run_makes Switch row is p = refl
+run_makes Fence row is p = refl
+run_makes Post row is p = refl
+run_makes Take row is p = refl
+run_makes Serve row is p = cc
+run_makes ServeFence row is p = refl
+run_makes Ack row is p = refl
+run_makes AckSelf row is p = refl
+run_makes Collect row is p = refl
+run_makes Finish row is p = refl
+run_makes Close row is p = refl
+run_makes Wait row is p = cc
+run_makes Retire row is p = refl
+run_makes Reclaim row is p = refl
+run_makes Create row is p = refl
+
+live_makes : Makes live_fields live_of
+live_makes Begin row is p = cc
+live_makes Translate row is p = refl
+live_makes Load row is p = cc
+live_makes Map row is p = refl
+live_makes Unmap row is p = refl
+live_makes Protect row is p = refl
+live_makes Flush row is p = refl
+live_makes Switch row is p = refl
+live_makes Fence row is p = refl
+live_makes Post row is p = refl
+live_makes Take row is p = cc
+live_makes Serve row is p = refl
+live_makes ServeFence row is p = cc
+live_makes Ack row is p = cc
+live_makes AckSelf row is p = refl
+live_makes Collect row is p = refl
+live_makes Finish row is p = refl
+live_makes Close row is p = refl
+live_makes Wait row is p = refl
+live_makes Retire row is p = cc
+live_makes Reclaim row is p = cc
+live_makes Create row is p = cc
+
+beside_alike : {A X : Type 0} (r s : Reading A) (f g : A → X) → Alike r s → Alike (r >>= λ x. Ok (f x)) (s >>= λ x. Ok (g x))
+beside_alike (Ok x) (Ok y) f g a = tt
+beside_alike (Ok x) (Err e) f g a = absurd a
+beside_alike (Err e) (Ok y) f g a = absurd a
+beside_alike (Err e) (Err h) f g a = a
 
 -- ---- of a reader that keeps its steps
 
 more_by : {X : Type 0} (r s : Reading X) → Keeps r s → ¬ (r ≡ Err NoSuchHart) → s ≡ r
 more_by r s k h = elim k [ inl same ↦ same | inr other ↦ absurd (h other.0) ]
 
-two_faults : {X : Type 0} (r : Reading X) → r ≡ Err NotStep → r ≡ Err NoSuchHart → ⊥
-two_faults r e f = cc
-
 none_by : {X : Type 0} (read : ℕ → Reading X) (m n : ℕ) → ((i j : ℕ) → i ≤ j → Keeps (read i) (read j)) → read m ≡ Err NotStep → read n ≡ Err NotStep
 none_by read m n keeps h = by_order (cases_lt m n)
   where
     by_order : (m < n) ⊎ (n ≤ m) → read n ≡ Err NotStep
-    by_order (inl less) = elim (keeps m n (omega arith)) [ inl same ↦ same ∙ h | inr other ↦ absurd (two_faults (read m) h other.0) ]
-    by_order (inr less) = elim (keeps n m less) [ inl same ↦ sym same ∙ h | inr other ↦ absurd (other.1 h) ]
+    by_order (inl less) = none_is (read n) (same_none (read m) (read n) (keeps m n (omega arith)) ∙ ap is_none h)
+    by_order (inr less) = none_is (read n) (sym (same_none (read n) (read m) (keeps n m less)) ∙ ap is_none h)
+
+run_keeps : (scheme : Scheme) (text : List ℕ) (m n : ℕ) → m ≤ n → Keeps (step_among scheme m text) (step_among scheme n text)
+run_keeps scheme text m n less =
+    hart_first_keeps scheme m n (read_step run_fields event_of scheme m) (read_step run_fields event_of scheme n) less (step_keeps run_fields event_of run_makes scheme m n less)
+    (step_alike run_fields event_of run_makes scheme n) (words_of text)
+
+live_keeps : (scheme : Scheme) (text : List ℕ) (m n : ℕ) → m ≤ n → Keeps (live_step_in scheme m text) (live_step_in scheme n text)
+live_keeps scheme text m n less = step_keeps live_fields live_of live_makes scheme m n less (words_of text) nothing
+
+setup_keeps : (scheme : Scheme) (text : List ℕ) (m n : ℕ) → m ≤ n → Keeps (setup_step_in scheme m text) (setup_step_in scheme n text)
+setup_keeps scheme text m n less =
+    hart_first_keeps scheme m n (setup_words scheme m) (setup_words scheme n) less
+    (λ words p. bind_keeps (live_words scheme m words p) (live_words scheme n words p) (λ s. Ok (p.hart, s)) (step_keeps live_fields live_of live_makes scheme m n less words p) (λ s. refl))
+    (λ words p q. beside_alike {X = ℕ × LiveStep} (live_words scheme n words p) (live_words scheme n words q) (λ s. (p.hart, s)) (λ s. (q.hart, s)) (step_alike live_fields live_of live_makes scheme n words p q))
+    (words_of text)
 
 pub more_harts : (scheme : Scheme) (m n : ℕ) (text : List ℕ) → m ≤ n → ¬ (step_among scheme m text ≡ Err NoSuchHart) → step_among scheme n text ≡ step_among scheme m text
-more_harts scheme m n text less h = more_by _ _ (step_keeps scheme m n less (words_of text)) h
+more_harts scheme m n text less h = more_by _ _ (run_keeps scheme text m n less) h
 
 -- a text that is no step for some harts is none for any
 pub no_step_for_any : (scheme : Scheme) (m n : ℕ) (text : List ℕ) → step_among scheme m text ≡ Err NotStep → step_among scheme n text ≡ Err NotStep
-no_step_for_any scheme m n text h = none_by (λ harts. step_among scheme harts text) m n (λ i j less. step_keeps scheme i j less (words_of text)) h
+no_step_for_any scheme m n text h = none_by (λ harts. step_among scheme harts text) m n (run_keeps scheme text) h
 
 pub more_harts_live : (scheme : Scheme) (m n : ℕ) (text : List ℕ) → m ≤ n → ¬ (live_step_in scheme m text ≡ Err NoSuchHart) → live_step_in scheme n text ≡ live_step_in scheme m text
-more_harts_live scheme m n text less h = more_by _ _ (live_keeps scheme m n less text) h
+more_harts_live scheme m n text less h = more_by _ _ (live_keeps scheme text m n less) h
 
 pub no_live_step_for_any : (scheme : Scheme) (m n : ℕ) (text : List ℕ) → live_step_in scheme m text ≡ Err NotStep → live_step_in scheme n text ≡ Err NotStep
-no_live_step_for_any scheme m n text h = none_by (λ harts. live_step_in scheme harts text) m n (λ i j less. live_keeps scheme i j less text) h
+no_live_step_for_any scheme m n text h = none_by (λ harts. live_step_in scheme harts text) m n (live_keeps scheme text) h
 
 pub more_harts_setup : (scheme : Scheme) (m n : ℕ) (text : List ℕ) → m ≤ n → ¬ (setup_step_in scheme m text ≡ Err NoSuchHart) → setup_step_in scheme n text ≡ setup_step_in scheme m text
-more_harts_setup scheme m n text less h = more_by _ _ (setup_words_keep scheme m n less (words_of text)) h
+more_harts_setup scheme m n text less h = more_by _ _ (setup_keeps scheme text m n less) h
 
 pub no_setup_step_for_any : (scheme : Scheme) (m n : ℕ) (text : List ℕ) → setup_step_in scheme m text ≡ Err NotStep → setup_step_in scheme n text ≡ Err NotStep
-no_setup_step_for_any scheme m n text h = none_by (λ harts. setup_step_in scheme harts text) m n (λ i j less. setup_words_keep scheme i j less (words_of text)) h
+no_setup_step_for_any scheme m n text h = none_by (λ harts. setup_step_in scheme harts text) m n (setup_keeps scheme text) h

@@ -12,7 +12,7 @@ use Rattle.steps.specs.declared.fault.StepFault.TheVariants.{NotStep, NoSuchHart
 use Rattle.steps.specs.declared.fields.NamedHarts.{NamedHarts}
 use Rattle.steps.specs.Fields.{named_among, named_of, parts_of, with_harts}
 use Rattle.steps.specs.Num.{num_of}
-use Rattle.steps.specs.RunGrammar.{IsPart, WritesBelow, WritesHarts, WritesNamed}
+use Rattle.steps.specs.StepGrammar.{IsPart, WritesBelow, WritesHarts, WritesNamed}
 use Rattle.steps.specs.StepFaults.{asked, ◌>>=◌}
 use Rattle.steps.proofs.FieldLemmas.{lt_from_test, lt_test, not_Ok, same_Ok}
 use Rattle.steps.proofs.GrammarLemmas.{num_of-writes, writes-num_of}

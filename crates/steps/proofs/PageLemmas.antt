@@ -6,7 +6,7 @@ use Rattle.pte.specs.declared.address.PageSize.{PageSize}
 use Rattle.pte.specs.declared.address.PageSize.TheVariants.{Kib4, Mib2, Gib1, Gib512}
 use Rattle.steps.specs.declared.fields.PageWord.{PageWord}
 use Rattle.steps.specs.Fields.{page_after, sized_page_of}
-use Rattle.steps.specs.Groups.{letter}
+use Rattle.steps.specs.Likely.{letter}
 
 -- a word with another first letter than the size
 not_size : (head : ℕ) (tail : List ℕ) (size : PageSize) (word : List ℕ) → (letter word 0 == head) ≡ false → page_after (head ∷ tail) size word ≡ None

@@ -71,6 +71,40 @@ create_of_a_space = refl
 pub wide_asid : rows.wide_asid
 wide_asid = refl
 
+pub load_of_hart_2 : rows.load_of_hart_2
+load_of_hart_2 = refl
+
+pub map_of_a_space : rows.map_of_a_space
+map_of_a_space = refl
+
+pub protect_of_the_kernel : rows.protect_of_the_kernel
+unfolding byte_of
+protect_of_the_kernel = refl
+
+pub switch_of_hart_1 : rows.switch_of_hart_1
+switch_of_hart_1 = refl
+
+pub post_to_hart_3 : rows.post_to_hart_3
+post_to_hart_3 = refl
+
+pub servefence_of_hart_3 : rows.servefence_of_hart_3
+servefence_of_hart_3 = refl
+
+pub ack_of_hart_3 : rows.ack_of_hart_3
+ack_of_hart_3 = refl
+
+pub ackself_of_hart_0 : rows.ackself_of_hart_0
+ackself_of_hart_0 = refl
+
+pub collect_from_hart_3 : rows.collect_from_hart_3
+collect_from_hart_3 = refl
+
+pub finish_of_hart_0 : rows.finish_of_hart_0
+finish_of_hart_0 = refl
+
+pub close_to_hart_3 : rows.close_to_hart_3
+close_to_hart_3 = refl
+
 pub no_step : rows.no_step
 no_step = refl
 
@@ -103,3 +137,5 @@ pub ruleset step_rows = (blanks_between_words, store_of_walk, begin_with_mxr, fe
 pub ruleset fault_rows = (no_step, no_hart, no_page)
 
 pub ruleset page_rows = (terapage, no_terapage, unaligned_terapage, far_page, farther_page)
+
+pub ruleset line_rows = (load_of_hart_2, map_of_a_space, protect_of_the_kernel, switch_of_hart_1, post_to_hart_3, servefence_of_hart_3, ack_of_hart_3, ackself_of_hart_0, collect_from_hart_3, finish_of_hart_0, close_to_hart_3)

@@ -19,6 +19,7 @@ use Rattle.steps.specs.declared.fault.StepFault.TheVariants.{NoSuchHart, NotPage
 use Rattle.steps.specs.declared.fields.NamedHarts.{NamedHarts}
 use Rattle.steps.specs.declared.fields.PageWord.{PageWord}
 use Rattle.steps.specs.Num.{num_of}
+use Rattle.steps.specs.StepFaults.{asked, ◌>>=◌}
 
 -- ---- numbers
 
@@ -164,3 +165,15 @@ are_there harts (Some greatest) = nat_lt greatest harts
 abbrev pub named_among : ℕ → NamedHarts → Result ℕ StepFault
 named_among harts named =
     if are_there harts named.greatest then Ok (byte_of named.set) else Err NoSuchHart
+
+-- ---- words that a scheme or the harts may refuse
+
+-- the number of a hart that exists
+abbrev pub hart_in : ℕ → List ℕ → Result ℕ StepFault
+hart_in harts word = asked (num_of word) >>= among harts
+
+abbrev pub page_in : Scheme → List ℕ → Result Span StepFault
+page_in scheme word = asked (page_of scheme word) >>= page_at scheme
+
+abbrev pub named_in : ℕ → List ℕ → Result ℕ StepFault
+named_in harts word = asked (named_of word) >>= named_among harts

@@ -3,7 +3,7 @@ use Rattle.std.specs.Prelude.{◌≡◌, ◌⊎◌, ℕ, ◌^◌, ◌<◌, ◌�
 use Rattle.std.specs.List.{AllByRecursion}
 use Rattle.std.specs.Str.Parse.{IsNumeral, digits_value}
 use Rattle.steps.specs.declared.step.WalkStep.{WalkStep}
-use Rattle.steps.specs.Step.{access_text, ctx_text}
+use Rattle.steps.specs.Accesses.{access_text, ctx_text}
 use Rattle.steps.specs.Words.{is_blank}
 
 -- `0x` and 1 to 16 hexadecimal digits

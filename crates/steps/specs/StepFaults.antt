@@ -18,3 +18,11 @@ abbrev pub ◌>>=◌ : {A B : Type 0} → Result A StepFault → (A → Result B
 -- a word that is not what its place in the step asks for makes the text no step
 abbrev pub asked : {A : Type 0} → Option A → Result A StepFault
 asked o = ok_or o NotStep
+
+-- of two faults the one that is told: the first in this order
+abbrev pub graver : StepFault → StepFault → StepFault
+graver NotStep other = NotStep
+graver NoSuchHart NotStep = NotStep
+graver NoSuchHart NoSuchHart = NoSuchHart
+graver NoSuchHart NotPage = NoSuchHart
+graver NotPage other = other

@@ -2,7 +2,7 @@
 use Rattle.pte.specs.declared.scheme.Scheme.TheVariants.{Sv39, Sv48}
 use Rattle.std.specs.Prelude.{◌≡◌, ℕ, Bool, true, false, codes, List, [], ◌∷◌, Option, Some, None, option_map, Err}
 use Rattle.pte.specs.Entry.{is_accessed, is_dirty, is_global, is_user, may_execute, may_read, may_write}
-use Rattle.pte.specs.declared.address.PageSize.TheVariants.{Mib2, Gib512}
+use Rattle.pte.specs.declared.address.PageSize.TheVariants.{Kib4, Mib2, Gib1, Gib512}
 use Rattle.pte.specs.declared.permission.Access.TheVariants.{Load, Store}
 use Rattle.pte.specs.declared.permission.Mode.TheVariants.{User, Super}
 use Rattle.spaces.specs.declared.places.Place.TheVariants as places
@@ -101,6 +101,43 @@ create_of_a_space = run_step_of Sv39 (codes "1 create 31 65535") ≡ Some (event
 -- an ASID has 16 bits
 abbrev pub wide_asid : Type 0
 wide_asid = run_step_of Sv39 (codes "0 create 1 65536") ≡ None
+
+-- ---- the other lines of `run`, each once
+
+abbrev pub load_of_hart_2 : Type 0
+load_of_hart_2 = run_step_of Sv39 (codes "2 load") ≡ Some (events.Load 2)
+
+abbrev pub map_of_a_space : Type 0
+map_of_a_space = run_step_of Sv39 (codes "0 map 3 4K:0x2000 0x80005 rwua") ≡ Some (events.Map 0 (places.Space 3) (record { base = 0x2000; size = Kib4 }) 0x80005
+    (record { 0 = 0x56 }))
+
+abbrev pub protect_of_the_kernel : Type 0
+protect_of_the_kernel = run_step_of Sv39 (codes "5 protect k 1G:0xffffffffc0000000 rg 0,5") ≡ Some (events.Protect 5 places.Kernel (record { base = 0xffffffffc0000000; size = Gib1 })
+    (record { 0 = 0x22 }) 0x21)
+
+abbrev pub switch_of_hart_1 : Type 0
+switch_of_hart_1 = run_step_of Sv39 (codes "1 switch 2") ≡ Some (events.Switch 1 2)
+
+abbrev pub post_to_hart_3 : Type 0
+post_to_hart_3 = run_step_of Sv39 (codes "0 post 9 3") ≡ Some (events.Post 0 9 3)
+
+abbrev pub servefence_of_hart_3 : Type 0
+servefence_of_hart_3 = run_step_of Sv39 (codes "3 servefence") ≡ Some (events.ServeFence 3)
+
+abbrev pub ack_of_hart_3 : Type 0
+ack_of_hart_3 = run_step_of Sv39 (codes "3 ack") ≡ Some (events.Ack 3)
+
+abbrev pub ackself_of_hart_0 : Type 0
+ackself_of_hart_0 = run_step_of Sv39 (codes "0 ackself 9") ≡ Some (events.AckSelf 0 9)
+
+abbrev pub collect_from_hart_3 : Type 0
+collect_from_hart_3 = run_step_of Sv39 (codes "0 collect 9 3") ≡ Some (events.Collect 0 9 3)
+
+abbrev pub finish_of_hart_0 : Type 0
+finish_of_hart_0 = run_step_of Sv39 (codes "0 finish 9") ≡ Some (events.Finish 0 9)
+
+abbrev pub close_to_hart_3 : Type 0
+close_to_hart_3 = run_step_of Sv39 (codes "0 close 3") ≡ Some (events.Close 0 3)
 
 -- ---- the first fault of several
 

@@ -1,4 +1,6 @@
 //! What is wrong with the text of a step.
+ghost use Rattle.std.specs.Prelude.{◌≡◌};
+ghost use Rattle.steps.specs.StepFaults.{graver};
 
 use std::error::Error;
 use std::fmt;
@@ -13,6 +15,22 @@ pub enum StepFault {
     /// The address of its page is not canonical, or no multiple of the page's size (privileged
     /// manual 4.4.1 and 4.5.1).
     NotPage,
+}
+
+impl StepFault {
+    /// Of two faults the first in this order.
+    pub(crate) fn graver(self, other: StepFault) -> StepFault
+        ensures { result ≡ graver self other }
+    {
+        match self {
+            StepFault::NotStep => StepFault::NotStep,
+            StepFault::NoSuchHart => match other {
+                StepFault::NotStep => StepFault::NotStep,
+                StepFault::NoSuchHart | StepFault::NotPage => StepFault::NoSuchHart,
+            },
+            StepFault::NotPage => other,
+        }
+    }
 }
 
 impl fmt::Display for StepFault {

@@ -1,7 +1,7 @@
 //! The words of a step.
 ghost use Rattle.std.specs.Prelude.{◌≡◌, option_map};
-ghost use Rattle.steps.specs.Groups.{letter};
-ghost use Rattle.steps.specs.Fields.{among, are_there, asid_of, flag_of, flags_of, listed_of, named_among, named_of, page_after, page_at, page_of, place_of, register_of, scope_of, sized_page_of, space_of, ticket_of, with_hart, with_letters, with_part};
+ghost use Rattle.steps.specs.Likely.{letter};
+ghost use Rattle.steps.specs.Fields.{among, are_there, asid_of, flag_of, flags_of, hart_in, listed_of, named_among, named_in, named_of, page_after, page_at, page_in, page_of, place_of, register_of, scope_of, sized_page_of, space_of, ticket_of, with_hart, with_letters, with_part};
 
 use crate::fault::StepFault;
 use crate::numbers::num;
@@ -131,7 +131,7 @@ fn sized_page(word: &[u8]) -> Option<PageWord>
 }
 
 /// A size that the scheme has, a colon, and an address.
-pub fn page_word(scheme: Scheme, word: &[u8]) -> Option<PageWord>
+fn page_word(scheme: Scheme, word: &[u8]) -> Option<PageWord>
     ensures { result ≡ page_of scheme word.now }
 {
     let page = sized_page(word)?;
@@ -144,7 +144,7 @@ pub fn page_word(scheme: Scheme, word: &[u8]) -> Option<PageWord>
 
 /// The page that the word writes. `NotPage`: its address is not canonical in the scheme, or no
 /// multiple of its size.
-pub fn page_at(scheme: Scheme, word: PageWord) -> Result<Page, StepFault>
+fn page_at(scheme: Scheme, word: PageWord) -> Result<Page, StepFault>
     ensures { result ≡ page_at scheme word }
 {
     let Some(base) = VirtAddr::new_in(scheme, word.base) else {
@@ -202,7 +202,7 @@ pub fn flags(word: &[u8]) -> Option<PteFlags>
 
 /// The hart of this number, where there are `harts` harts with numbers from 0. `NoSuchHart`: the
 /// number is not below `harts`.
-pub fn among(harts: u8, hart: u64) -> Result<u8, StepFault>
+fn among(harts: u8, hart: u64) -> Result<u8, StepFault>
     ensures { result ≡ among harts hart }
 {
     if hart >= u64::from(harts) {
@@ -250,7 +250,7 @@ fn listed(word: &[u8]) -> Option<NamedHarts>
 }
 
 /// The harts that a word names: their numbers with commas between them, or `-` for none.
-pub fn named(word: &[u8]) -> Option<NamedHarts>
+fn named(word: &[u8]) -> Option<NamedHarts>
     ensures { result ≡ named_of word.now }
 {
     if word == b"-".as_slice() {
@@ -274,11 +274,38 @@ fn are_there(harts: u8, greatest: Option<u64>) -> bool
 
 /// The harts that are named, bit h for hart h. `NoSuchHart`: one of their numbers is not below
 /// `harts`.
-pub fn named_among(harts: u8, named: NamedHarts) -> Result<u8, StepFault>
+fn named_among(harts: u8, named: NamedHarts) -> Result<u8, StepFault>
     ensures { result ≡ named_among harts named }
 {
     if !are_there(harts, named.greatest) {
         return Err(StepFault::NoSuchHart);
     }
     Ok(u8::from(named.set))
+}
+
+/// The hart whose number a word is. `NotStep`: it is no number. `NoSuchHart`: it is not below
+/// `harts`.
+pub fn hart_in(harts: u8, word: &[u8]) -> Result<u8, StepFault>
+    ensures { result ≡ hart_in harts word.now }
+{
+    let hart = num(word).ok_or(StepFault::NotStep)?;
+    among(harts, hart)
+}
+
+/// The page that a word is. `NotStep`: it has no size of the scheme, or no address. `NotPage`: the
+/// address is not canonical in the scheme, or no multiple of the size.
+pub fn page_in(scheme: Scheme, word: &[u8]) -> Result<Page, StepFault>
+    ensures { result ≡ page_in scheme word.now }
+{
+    let page = page_word(scheme, word).ok_or(StepFault::NotStep)?;
+    page_at(scheme, page)
+}
+
+/// The harts that a word names, bit h for hart h. `NotStep`: it does not name harts. `NoSuchHart`:
+/// one of their numbers is not below `harts`.
+pub fn named_in(harts: u8, word: &[u8]) -> Result<u8, StepFault>
+    ensures { result ≡ named_in harts word.now }
+{
+    let named = named(word).ok_or(StepFault::NotStep)?;
+    named_among(harts, named)
 }

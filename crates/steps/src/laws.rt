@@ -8,10 +8,9 @@ ghost use Rattle.pte.specs.declared.TheConstants.{MAX_HARTS};
 ghost use Rattle.steps.specs.declared.fault.StepFault.TheVariants.{NoSuchHart, NotStep};
 ghost use Rattle.steps.specs.declared.step.WalkStep.{WalkStep};
 ghost use Rattle.steps.specs.Grammar.{WritesNumber, WritesStep};
-ghost use Rattle.steps.specs.LiveGrammar.{WritesLiveStep, WritesSetupStep};
 ghost use Rattle.steps.specs.LiveSteps.{live_step_in, setup_step_in};
 ghost use Rattle.steps.specs.Num.{num_of};
-ghost use Rattle.steps.specs.RunGrammar.{WritesRunStep};
+ghost use Rattle.steps.specs.StepGrammar.{WritesLiveStep, WritesRunStep, WritesSetupStep};
 ghost use Rattle.steps.specs.RunStep.{run_step_of, step_among};
 ghost use Rattle.steps.specs.Step.{walk_step_of};
 

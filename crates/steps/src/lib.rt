@@ -4,15 +4,18 @@
 //! are hexadecimal after `0x` or decimal.
 #![tactic(auto)]
 
+mod accesses;
 mod fault;
 mod fields;
 mod laws;
 mod live;
 mod numbers;
+mod parts;
 mod run;
-mod spelled;
 mod step;
+mod table;
 mod text;
+mod told;
 mod worked_rows;
 
 pub use fault::StepFault;
@@ -24,10 +27,13 @@ pub use laws::{
 };
 pub use live::{live_step_among, setup_step_among};
 pub use numbers::num;
+pub use parts::Parts;
 pub use run::{run_step, run_step_among};
 pub use step::{WalkStep, walk_step};
+pub use table::{Field, Row, STEP_NAMES, StepName, WALK_FIELDS};
 pub use text::{next_word, words};
+pub use told::step_for;
 pub use worked_rows::{
-    worked_faults, worked_letters, worked_live_faults, worked_live_pages, worked_live_steps,
-    worked_pages, worked_steps,
+    worked_faults, worked_letters, worked_lines, worked_live_faults, worked_live_pages,
+    worked_live_steps, worked_pages, worked_steps,
 };

@@ -1,144 +1,109 @@
 //! The steps of `live`.
 ghost use Rattle.std.specs.Prelude.{◌≡◌};
-ghost use Rattle.steps.specs.LiveSteps.{live_edit_of, live_pair_of, live_step_by, live_step_in, setup_step_by, setup_step_in};
+ghost use Rattle.steps.specs.LiveSteps.{live_step_in, live_words, setup_step_in};
+ghost use Rattle.steps.specs.Table.{live_of};
+ghost use Rattle.steps.specs.Words.{words_of};
+ghost use Rattle.steps.specs.declared.table.StepName.TheVariants as names;
 
 use crate::fault::StepFault;
-use crate::fields::{among, named_among, page_at};
-use crate::numbers::num;
-use crate::spelled::{EditStep, PairStep, Spelled, spelled_in};
+use crate::parts::Parts;
+use crate::table::{Field, StepName};
 use crate::text::next_word;
 use history::LiveStep;
 use pte::Scheme;
 
-fn live_edit(scheme: Scheme, harts: u8, step: EditStep) -> Result<LiveStep, StepFault>
-    ensures { result ≡ live_edit_of scheme harts step }
-{
-    match step {
-        EditStep::Map {
-            place,
-            page,
-            ppn,
-            flags,
-        } => Ok(LiveStep::Map {
-            place,
-            page: page_at(scheme, page)?,
-            ppn,
-            flags,
-        }),
-        EditStep::Unmap { place, page, named } => Ok(LiveStep::Unmap {
-            place,
-            named: named_among(harts, named)?,
-            page: page_at(scheme, page)?,
-        }),
-        EditStep::Protect {
-            place,
-            page,
-            flags,
-            named,
-        } => Ok(LiveStep::Protect {
-            place,
-            flags,
-            named: named_among(harts, named)?,
-            page: page_at(scheme, page)?,
-        }),
+impl Parts {
+    fn live_map(self) -> Option<LiveStep>
+        ensures { result ≡ live_of names.Map self }
+    {
+        Some(LiveStep::Map {
+            place: self.place,
+            page: self.page,
+            ppn: self.ppn,
+            flags: self.flags,
+        })
     }
-}
 
-fn live_pair(harts: u8, step: PairStep) -> Result<LiveStep, StepFault>
-    ensures { result ≡ live_pair_of harts step }
-{
-    match step {
-        PairStep::Post { ticket, to } => {
-            let to = among(harts, to)?;
-            Ok(LiveStep::Post { ticket, to })
-        }
-        PairStep::Serve { from } => {
-            let from = among(harts, from)?;
-            Ok(LiveStep::Serve { from })
-        }
-        PairStep::Close { to } => {
-            let to = among(harts, to)?;
-            Ok(LiveStep::Close { to })
-        }
-        PairStep::CollectFrom { .. } | PairStep::Take { .. } => Err(StepFault::NotStep),
+    fn live_unmap(self) -> Option<LiveStep>
+        ensures { result ≡ live_of names.Unmap self }
+    {
+        Some(LiveStep::Unmap {
+            place: self.place,
+            page: self.page,
+            named: self.named,
+        })
     }
-}
 
-fn live_step_by(scheme: Scheme, harts: u8, step: Spelled) -> Result<LiveStep, StepFault>
-    ensures { result ≡ live_step_by scheme harts step }
-{
-    match step {
-        Spelled::Translate { step } => Ok(LiveStep::Translate {
-            va: step.va,
-            access: step.access,
-            ctx: step.ctx,
-        }),
-        Spelled::Edit(edit) => live_edit(scheme, harts, edit),
-        Spelled::Flush { scope, named } => {
-            let named = named_among(harts, named)?;
-            Ok(LiveStep::Flush { scope, named })
-        }
-        Spelled::Fence { rs1, rs2 } => Ok(LiveStep::Fence { rs1, rs2 }),
-        Spelled::Switch { space } => Ok(LiveStep::Switch { space }),
-        Spelled::Pair(pair) => live_pair(harts, pair),
-        Spelled::AckSelf { ticket } => Ok(LiveStep::AckSelf { ticket }),
-        Spelled::Collect { ticket } => Ok(LiveStep::Collect { ticket }),
-        Spelled::Finish { ticket } => Ok(LiveStep::Finish { ticket }),
-        Spelled::Wait { ticket } => Ok(LiveStep::Wait { ticket }),
-        Spelled::Begin { .. }
-        | Spelled::Load
-        | Spelled::ServeFence
-        | Spelled::Retire { .. }
-        | Spelled::Reclaim { .. }
-        | Spelled::Create { .. }
-        | Spelled::Ack => Err(StepFault::NotStep),
+    fn live_protect(self) -> Option<LiveStep>
+        ensures { result ≡ live_of names.Protect self }
+    {
+        Some(LiveStep::Protect {
+            place: self.place,
+            page: self.page,
+            flags: self.flags,
+            named: self.named,
+        })
     }
-}
 
-/// The step, and the hart with this number, if it exists.
-fn setup_step_by(
-    scheme: Scheme,
-    harts: u8,
-    hart: u64,
-    step: Spelled,
-) -> Result<(u8, LiveStep), StepFault>
-    ensures { result ≡ setup_step_by scheme harts hart step }
-{
-    if !step.is_of_live() {
-        return Err(StepFault::NotStep);
+    /// The step that one of this name makes of these parts, `None` where `live` has no such step.
+    pub(crate) fn live_step(self, name: StepName) -> Option<LiveStep>
+        ensures { result ≡ live_of name self }
+    {
+        let (space, ticket, other) = (self.space, self.ticket, self.other);
+        let (scope, named, rs1, rs2) = (self.scope, self.named, self.rs1, self.rs2);
+        let (va, access, ctx) = (self.va, self.access, self.ctx);
+        match name {
+            StepName::Translate => Some(LiveStep::Translate { va, access, ctx }),
+            StepName::Map => self.live_map(),
+            StepName::Unmap => self.live_unmap(),
+            StepName::Protect => self.live_protect(),
+            StepName::Flush => Some(LiveStep::Flush { scope, named }),
+            StepName::Switch => Some(LiveStep::Switch { space }),
+            StepName::Fence => Some(LiveStep::Fence { rs1, rs2 }),
+            StepName::Post => Some(LiveStep::Post { ticket, to: other }),
+            StepName::Serve => Some(LiveStep::Serve { from: other }),
+            StepName::AckSelf => Some(LiveStep::AckSelf { ticket }),
+            StepName::Collect => Some(LiveStep::Collect { ticket }),
+            StepName::Finish => Some(LiveStep::Finish { ticket }),
+            StepName::Close => Some(LiveStep::Close { to: other }),
+            StepName::Wait => Some(LiveStep::Wait { ticket }),
+            StepName::Begin
+            | StepName::Load
+            | StepName::Take
+            | StepName::ServeFence
+            | StepName::Ack
+            | StepName::Retire
+            | StepName::Reclaim
+            | StepName::Create => None,
+        }
     }
-    let hart = among(harts, hart)?;
-    let step = live_step_by(scheme, harts, step)?;
-    Ok((hart, step))
+
+    /// The step of `live` whose name and words a text has.
+    fn live_words(&self, scheme: Scheme, harts: u8, text: &[u8]) -> Result<LiveStep, StepFault>
+        ensures { result ≡ live_words scheme harts (words_of text.now) self.now }
+    {
+        let (word, rest) = next_word(text).ok_or(StepFault::NotStep)?;
+        let name = StepName::of(word).ok_or(StepFault::NotStep)?;
+        let fields = name.row().live.ok_or(StepFault::NotStep)?;
+        let parts = self.read_each(scheme, harts, fields, rest)?;
+        parts.live_step(name).ok_or(StepFault::NotStep)
+    }
 }
 
 /// The step of `live` that a line of a script writes, in a scheme and with `harts` harts, whose
 /// numbers are from 0 on, or the first of its faults. A script is one hart's, and its lines name no
 /// hart before the step.
 ///
-/// The words are one of these lines, where G is a hart, T a ticket below 2^32, S a space below 256,
-/// PL a space or `k`, PAGE a size and an address such as `4K:0x1000`, FLAGS letters of `rwxugad` or
-/// `-`, NAMED harts such as `0,1` or `-`, SCOPE a space or `all`, R a number or `x0`, M a mode such
-/// as `s+sum`, A an access, and VA, PPN numbers. The sizes are `4K`, `2M`, `1G`, and in Sv48
-/// `512G`:
+/// The words are the name of a step of `live`, and what its row in the table asks for
+/// (`StepName::row`), as `run_step_among` tells of each.
 ///
-/// ```text
-/// translate M A VA       map PL PAGE PPN FLAGS        post T G        ackself T
-/// switch S               unmap PL PAGE NAMED          serve G         collect T
-/// fence R R              protect PL PAGE FLAGS NAMED  close G         finish T
-/// flush SCOPE NAMED      wait T
-/// ```
-///
-/// `StepFault::NotStep`: the words are none of them. `NoSuchHart`: they are, and name a hart that
+/// `StepFault::NotStep`: the words are no such step. `NoSuchHart`: they are, and name a hart that
 /// does not exist. `NotPage`: all harts exist, and the page's address is not canonical in the
 /// scheme or no multiple of its size (privileged manual 4.4.1 and 4.5.1).
 pub fn live_step_among(scheme: Scheme, harts: u8, text: &str) -> Result<LiveStep, StepFault>
     ensures { result ≡ live_step_in scheme harts text.now }
 {
-    let Some(step) = spelled_in(scheme, text.as_bytes()) else {
-        return Err(StepFault::NotStep);
-    };
-    live_step_by(scheme, harts, step)
+    Parts::nothing().live_words(scheme, harts, text.as_bytes())
 }
 
 /// The hart and the step of `live` that a line of the setup writes, in a scheme and with `harts`
@@ -147,10 +112,19 @@ pub fn live_step_among(scheme: Scheme, harts: u8, text: &str) -> Result<LiveStep
 pub fn setup_step_among(scheme: Scheme, harts: u8, text: &str) -> Result<(u8, LiveStep), StepFault>
     ensures { result ≡ setup_step_in scheme harts text.now }
 {
-    let (hart, rest) = next_word(text.as_bytes()).ok_or(StepFault::NotStep)?;
-    let hart = num(hart).ok_or(StepFault::NotStep)?;
-    let Some(step) = spelled_in(scheme, rest) else {
-        return Err(StepFault::NotStep);
-    };
-    setup_step_by(scheme, harts, hart, step)
+    let (word, rest) = next_word(text.as_bytes()).ok_or(StepFault::NotStep)?;
+    let nothing = Parts::nothing();
+    match nothing.read(scheme, harts, Field::Hart, word) {
+        Ok(own) => {
+            let hart = own.hart;
+            match own.live_words(scheme, harts, rest) {
+                Ok(step) => Ok((hart, step)),
+                Err(fault) => Err(fault),
+            }
+        }
+        Err(fault) => match nothing.live_words(scheme, harts, rest) {
+            Ok(_) => Err(fault),
+            Err(other) => Err(fault.graver(other)),
+        },
+    }
 }

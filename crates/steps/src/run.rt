@@ -1,155 +1,142 @@
 //! The steps of `run`.
 ghost use Rattle.std.specs.Prelude.{◌≡◌};
-ghost use Rattle.steps.specs.RunStep.{edit_event_of, event_of, pair_event_of, run_step_by, run_step_of, step_among};
+ghost use Rattle.steps.specs.Reading.{read_step};
+ghost use Rattle.steps.specs.RunStep.{run_step_of, step_among};
+ghost use Rattle.steps.specs.Table.{event_of, run_fields};
+ghost use Rattle.steps.specs.Words.{words_of};
+ghost use Rattle.steps.specs.declared.table.StepName.TheVariants as names;
 
 use crate::fault::StepFault;
-use crate::fields::{among, named_among, page_at};
-use crate::numbers::num;
-use crate::spelled::{EditStep, PairStep, Spelled, spelled_in};
+use crate::parts::Parts;
+use crate::table::{Field, StepName};
 use crate::text::next_word;
 use history::Event;
 use pte::{MAX_HARTS, Scheme};
 
-/// The event of an edit by a hart that is known to exist.
-fn edit_event(scheme: Scheme, harts: u8, hart: u8, step: EditStep) -> Result<Event, StepFault>
-    ensures { result ≡ edit_event_of scheme harts hart step }
-{
-    match step {
-        EditStep::Map {
-            place,
-            page,
-            ppn,
-            flags,
-        } => Ok(Event::Map {
-            hart,
-            place,
-            page: page_at(scheme, page)?,
-            ppn,
-            flags,
-        }),
-        EditStep::Unmap { place, page, named } => Ok(Event::Unmap {
-            hart,
-            place,
-            named: named_among(harts, named)?,
-            page: page_at(scheme, page)?,
-        }),
-        EditStep::Protect {
-            place,
-            page,
-            flags,
-            named,
-        } => Ok(Event::Protect {
-            hart,
-            place,
-            flags,
-            named: named_among(harts, named)?,
-            page: page_at(scheme, page)?,
-        }),
+impl Parts {
+    fn begin(self) -> Option<Event>
+        ensures { result ≡ event_of names.Begin self }
+    {
+        Some(Event::Begin {
+            hart: self.hart,
+            va: self.va,
+            access: self.access,
+            ctx: self.ctx,
+        })
     }
-}
 
-/// The event of a step with another hart, by a hart that is known to exist.
-fn pair_event(harts: u8, hart: u8, step: PairStep) -> Result<Event, StepFault>
-    ensures { result ≡ pair_event_of harts hart step }
-{
-    match step {
-        PairStep::Post { ticket, to } => {
-            let to = among(harts, to)?;
-            Ok(Event::Post { hart, ticket, to })
-        }
-        PairStep::CollectFrom { ticket, from } => {
-            let from = among(harts, from)?;
-            Ok(Event::Collect { hart, ticket, from })
-        }
-        PairStep::Take { from } => {
-            let from = among(harts, from)?;
-            Ok(Event::Take { hart, from })
-        }
-        PairStep::Close { to } => {
-            let to = among(harts, to)?;
-            Ok(Event::Close { hart, to })
-        }
-        PairStep::Serve { .. } => Err(StepFault::NotStep),
+    fn map(self) -> Option<Event>
+        ensures { result ≡ event_of names.Map self }
+    {
+        Some(Event::Map {
+            hart: self.hart,
+            place: self.place,
+            page: self.page,
+            ppn: self.ppn,
+            flags: self.flags,
+        })
     }
-}
 
-/// The event of a step by a hart that is known to exist.
-fn event(scheme: Scheme, harts: u8, hart: u8, step: Spelled) -> Result<Event, StepFault>
-    ensures { result ≡ event_of scheme harts hart step }
-{
-    match step {
-        Spelled::Begin { step } => Ok(Event::Begin {
-            hart,
-            va: step.va,
-            access: step.access,
-            ctx: step.ctx,
-        }),
-        Spelled::Load => Ok(Event::Load { hart }),
-        Spelled::Edit(edit) => edit_event(scheme, harts, hart, edit),
-        Spelled::Flush { scope, named } => {
-            let named = named_among(harts, named)?;
-            Ok(Event::Flush { hart, scope, named })
-        }
-        Spelled::Fence { rs1, rs2 } => Ok(Event::Fence { hart, rs1, rs2 }),
-        Spelled::ServeFence => Ok(Event::ServeFence { hart }),
-        Spelled::Switch { space } => Ok(Event::Switch { hart, space }),
-        Spelled::Retire { space } => Ok(Event::Retire { hart, space }),
-        Spelled::Reclaim { space } => Ok(Event::Reclaim { hart, space }),
-        Spelled::Create { space, asid } => Ok(Event::Create { hart, space, asid }),
-        Spelled::Pair(pair) => pair_event(harts, hart, pair),
-        Spelled::AckSelf { ticket } => Ok(Event::AckSelf { hart, ticket }),
-        Spelled::Finish { ticket } => Ok(Event::Finish { hart, ticket }),
-        Spelled::Ack => Ok(Event::Ack { hart }),
-        Spelled::Translate { .. } | Spelled::Collect { .. } | Spelled::Wait { .. } => {
-            Err(StepFault::NotStep)
+    fn unmap(self) -> Option<Event>
+        ensures { result ≡ event_of names.Unmap self }
+    {
+        Some(Event::Unmap {
+            hart: self.hart,
+            place: self.place,
+            page: self.page,
+            named: self.named,
+        })
+    }
+
+    fn protect(self) -> Option<Event>
+        ensures { result ≡ event_of names.Protect self }
+    {
+        Some(Event::Protect {
+            hart: self.hart,
+            place: self.place,
+            page: self.page,
+            flags: self.flags,
+            named: self.named,
+        })
+    }
+
+    /// The event that a step of this name makes of these parts, `None` where `run` has no such
+    /// step.
+    pub(crate) fn event(self, name: StepName) -> Option<Event>
+        ensures { result ≡ event_of name self }
+    {
+        let (hart, space, ticket, other) = (self.hart, self.space, self.ticket, self.other);
+        let (scope, named, rs1, rs2) = (self.scope, self.named, self.rs1, self.rs2);
+        let asid = self.asid;
+        match name {
+            StepName::Begin => self.begin(),
+            StepName::Load => Some(Event::Load { hart }),
+            StepName::Map => self.map(),
+            StepName::Unmap => self.unmap(),
+            StepName::Protect => self.protect(),
+            StepName::Flush => Some(Event::Flush { hart, scope, named }),
+            StepName::Switch => Some(Event::Switch { hart, space }),
+            StepName::Fence => Some(Event::Fence { hart, rs1, rs2 }),
+            StepName::Post => Some(Event::Post {
+                hart,
+                ticket,
+                to: other,
+            }),
+            StepName::Take => Some(Event::Take { hart, from: other }),
+            StepName::ServeFence => Some(Event::ServeFence { hart }),
+            StepName::Ack => Some(Event::Ack { hart }),
+            StepName::AckSelf => Some(Event::AckSelf { hart, ticket }),
+            StepName::Collect => Some(Event::Collect {
+                hart,
+                ticket,
+                from: other,
+            }),
+            StepName::Finish => Some(Event::Finish { hart, ticket }),
+            StepName::Close => Some(Event::Close { hart, to: other }),
+            StepName::Retire => Some(Event::Retire { hart, space }),
+            StepName::Reclaim => Some(Event::Reclaim { hart, space }),
+            StepName::Create => Some(Event::Create { hart, space, asid }),
+            StepName::Translate | StepName::Serve | StepName::Wait => None,
         }
     }
-}
 
-/// The event of a step by the hart with this number, if it exists. Only where it does not is it
-/// asked whether `run` has the step: `event` refuses those that it has not.
-#[tactic(auto, using(crate::proofs::EventLemmas::known_hart))]
-fn run_step_by(scheme: Scheme, harts: u8, hart: u64, step: Spelled) -> Result<Event, StepFault>
-    ensures { result ≡ run_step_by scheme harts hart step }
-{
-    if hart < u64::from(harts) {
-        event(scheme, harts, hart as u8, step)
-    } else if step.is_of_run() {
-        Err(StepFault::NoSuchHart)
-    } else {
-        Err(StepFault::NotStep)
+    /// The event of a step whose name and words a text has.
+    fn run_step(&self, scheme: Scheme, harts: u8, text: &[u8]) -> Result<Event, StepFault>
+        ensures { result ≡ read_step run_fields event_of scheme harts (words_of text.now) self.now }
+    {
+        let (word, rest) = next_word(text).ok_or(StepFault::NotStep)?;
+        let name = StepName::of(word).ok_or(StepFault::NotStep)?;
+        let fields = name.row().run.ok_or(StepFault::NotStep)?;
+        let parts = self.read_each(scheme, harts, fields, rest)?;
+        parts.event(name).ok_or(StepFault::NotStep)
     }
 }
 
 /// The step of `run` that a text writes, in a scheme and with `harts` harts, whose numbers are from
 /// 0 on, or the first of its faults.
 ///
-/// The words are one of these lines, where H, G are harts, T a ticket below 2^32, S a space below
-/// 256, N an ASID of 16 bits, PL a space or `k`, PAGE a size and an address such as `4K:0x1000`,
-/// FLAGS letters of `rwxugad` or `-`, NAMED harts such as `0,1` or `-`, SCOPE a space or `all`, R a
-/// number or `x0`, M a mode such as `s+sum`, A an access, and VA, PPN numbers. The sizes are `4K`,
-/// `2M`, `1G`, and in Sv48 `512G`:
+/// The words are the number of the hart, the name of a step, and what its row in the table asks for
+/// (`StepName::row`): an H, FROM or TO is a hart, a TICKET is below 2^32, a SPACE below 256, an
+/// ASID of 16 bits, a PLACE a space or `k`, a PAGE a size and an address such as `4K:0x1000`, FLAGS
+/// letters of `rwxugad` or `-`, NAMED harts such as `0,1` or `-`, a SCOPE a space or `all`, RS1 and
+/// RS2 a number or `x0`, a MODE such as `s+sum`, an ACCESS `fetch`, `load` or `store`, and VA and
+/// PPN numbers. The sizes are `4K`, `2M`, `1G`, and in Sv48 `512G`.
 ///
-/// ```text
-/// H begin M A VA         H map PL PAGE PPN FLAGS        H post T G        H ackself T
-/// H load                 H unmap PL PAGE NAMED          H take G          H collect T G
-/// H switch S             H protect PL PAGE FLAGS NAMED  H servefence      H finish T
-/// H fence R R            H flush SCOPE NAMED            H ack             H close G
-/// H retire S             H reclaim S                    H create S N
-/// ```
-///
-/// `StepFault::NotStep`: the words are none of them. `NoSuchHart`: they are, and name a hart that
-/// does not exist. `NotPage`: all harts exist, and the page's address is not canonical in the
-/// scheme or no multiple of its size (privileged manual 4.4.1 and 4.5.1).
+/// `StepFault::NotStep`: the words are no step. `NoSuchHart`: they are, and name a hart that does
+/// not exist. `NotPage`: all harts exist, and the page's address is not canonical in the scheme or
+/// no multiple of its size (privileged manual 4.4.1 and 4.5.1).
 pub fn run_step_among(scheme: Scheme, harts: u8, text: &str) -> Result<Event, StepFault>
     ensures { result ≡ step_among scheme harts text.now }
 {
-    let (hart, rest) = next_word(text.as_bytes()).ok_or(StepFault::NotStep)?;
-    let hart = num(hart).ok_or(StepFault::NotStep)?;
-    let Some(step) = spelled_in(scheme, rest) else {
-        return Err(StepFault::NotStep);
-    };
-    run_step_by(scheme, harts, hart, step)
+    let (word, rest) = next_word(text.as_bytes()).ok_or(StepFault::NotStep)?;
+    let nothing = Parts::nothing();
+    match nothing.read(scheme, harts, Field::Hart, word) {
+        Ok(own) => own.run_step(scheme, harts, rest),
+        Err(fault) => match nothing.run_step(scheme, harts, rest) {
+            Ok(_) => Err(fault),
+            Err(other) => Err(fault.graver(other)),
+        },
+    }
 }
 
 /// The step of `run` in a scheme that a text writes where there are 8 harts, as many as there may

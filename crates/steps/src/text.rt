@@ -1,7 +1,7 @@
 //! The words of a text.
-ghost use Rattle.std.specs.Prelude.{◌≡◌, ◌<◌, false, not, [], ◌∷◌, IfOk, IfSome, MatchOption, None, Some, length, map, slice_index};
+ghost use Rattle.std.specs.Prelude.{◌≡◌, ◌<◌, false, not, [], ◌∷◌, IfOk, IfSome, MatchOption, length, map, slice_index};
 ghost use Rattle.std.specs.List.{position_or_len};
-ghost use Rattle.steps.specs.Words.{four_words, is_blank, is_over, one_word, three_words, two_words, words_of};
+ghost use Rattle.steps.specs.Words.{is_blank, words_of};
 
 use std::alloc::{AllocError, Global};
 
@@ -48,52 +48,6 @@ pub fn next_word(text: &[u8]) -> Option<(&[u8], &[u8])>
         return None;
     }
     Some(split_word(text))
-}
-
-/// Whether no word is left.
-pub fn is_over(text: &[u8]) -> bool
-    ensures { result ≡ is_over (words_of text.now) }
-{
-    next_word(text).is_none()
-}
-
-/// The word of a text that has just one.
-pub fn one_word(text: &[u8]) -> Option<&[u8]>
-    ensures { MatchOption result (one_word (words_of text.now)
-        ≡ None) (λ a. one_word (words_of text.now) ≡ Some a.now) }
-{
-    let (a, rest) = next_word(text)?;
-    if is_over(rest) { Some(a) } else { None }
-}
-
-/// The words of a text that has two.
-pub fn two_words(text: &[u8]) -> Option<(&[u8], &[u8])>
-    ensures { MatchOption result (two_words (words_of text.now)
-        ≡ None) (λ a. two_words (words_of text.now) ≡ Some (a.0.now, a.1.now)) }
-{
-    let (a, rest) = next_word(text)?;
-    let b = one_word(rest)?;
-    Some((a, b))
-}
-
-/// The words of a text that has three.
-pub fn three_words(text: &[u8]) -> Option<(&[u8], &[u8], &[u8])>
-    ensures { MatchOption result (three_words (words_of text.now)
-        ≡ None) (λ a. three_words (words_of text.now) ≡ Some (a.0.now, a.1.now, a.2.now)) }
-{
-    let (a, rest) = next_word(text)?;
-    let (b, c) = two_words(rest)?;
-    Some((a, b, c))
-}
-
-/// The words of a text that has four.
-pub fn four_words(text: &[u8]) -> Option<(&[u8], &[u8], &[u8], &[u8])>
-    ensures { MatchOption result (four_words (words_of text.now)
-        ≡ None) (λ a. four_words (words_of text.now) ≡ Some (a.0.now, a.1.now, a.2.now, a.3.now)) }
-{
-    let (a, rest) = next_word(text)?;
-    let (b, c, d) = three_words(rest)?;
-    Some((a, b, c, d))
 }
 
 /// What stands between spaces and tabs. `AllocError`: there was no room for the list.

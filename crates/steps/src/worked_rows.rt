@@ -36,6 +36,22 @@ pub fn worked_steps()
     ensures wide_asid { rows.wide_asid }
 {}
 
+/// Each line of `run` that no other row has.
+#[tactic(auto, using(crate::proofs::WorkedRows::line_rows))]
+pub fn worked_lines()
+    ensures load_of_hart_2 { rows.load_of_hart_2 }
+    ensures map_of_a_space { rows.map_of_a_space }
+    ensures protect_of_the_kernel { rows.protect_of_the_kernel }
+    ensures switch_of_hart_1 { rows.switch_of_hart_1 }
+    ensures post_to_hart_3 { rows.post_to_hart_3 }
+    ensures servefence_of_hart_3 { rows.servefence_of_hart_3 }
+    ensures ack_of_hart_3 { rows.ack_of_hart_3 }
+    ensures ackself_of_hart_0 { rows.ackself_of_hart_0 }
+    ensures collect_from_hart_3 { rows.collect_from_hart_3 }
+    ensures finish_of_hart_0 { rows.finish_of_hart_0 }
+    ensures close_to_hart_3 { rows.close_to_hart_3 }
+{}
+
 /// The first fault of several.
 #[tactic(auto, using(crate::proofs::WorkedRows::fault_rows))]
 pub fn worked_faults()

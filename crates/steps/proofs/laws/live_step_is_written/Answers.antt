@@ -1,4 +1,4 @@
-use Rattle.steps.proofs.LiveLemmas.{live-writes, one_live_step, writes-live}
+use Rattle.steps.proofs.StepTexts.{live-writes, one_live_step, writes-live}
 use Rattle.steps.proofs.laws.live_step_is_written.Goals as goal
 
 pub returns : goal.returns

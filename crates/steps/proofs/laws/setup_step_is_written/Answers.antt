@@ -1,4 +1,4 @@
-use Rattle.steps.proofs.LiveLemmas.{one_setup_step, setup-writes, writes-setup}
+use Rattle.steps.proofs.StepTexts.{one_setup_step, setup-writes, writes-setup}
 use Rattle.steps.proofs.laws.setup_step_is_written.Goals as goal
 
 pub returns : goal.returns
