@@ -6,7 +6,8 @@
 - Sources: a block ```rust, ```c or ```antt is a text of one source file, of which `..` stands for what is left out.
 - Links: each file and each heading that a page of the repository links to is there.
 - Help: of each command the wrapper ./svsim and PROGRAM tell the same, and both list the commands alike. PROGRAM has CHANGELOG's version.
-- Formats: docs/FORMAT.md has the keys, the steps and the refusals of the code, each where it belongs, and no others.
+- Formats: docs/FORMAT.md has the keys, the steps and the refusals of the code, each where it belongs, and no others; of keys their order, and
+  of numbers the limits that PROGRAM tells and the defaults of the code.
 - Sizes: README's words and lines, and the bytes of the pages for users.
 
 The last line is `N passed, M failed`.
@@ -17,6 +18,7 @@ TOP = os.path.dirname(os.path.dirname(os.path.abspath(__file__)))
 MOST_WORDS, MOST_LINES, MOST_BYTES = 900, 115, 75 * 1024
 NOT_FOR_USERS = ("docs/dev/", "docs/DECISIONS.md", "docs/PERF.md")
 SECONDS = 60
+KEY_TABLE = "crates/files/src/key_table.rt"
 
 
 def tracked(*patterns):
@@ -146,17 +148,12 @@ def check_help(program):
     yield printed_by(program, "--version") == f"svsim {version}\n", f"--version: the program's is not CHANGELOG's {version}"
 
 
-def listed_in(source, name):
-    """The texts of a list of the code."""
-    return set(re.findall(r'"([^"]*)"', re.search(rf"const {name}: \[&str; \d+\] = \[(.*?)\];", text_of(source), re.S)[1]))
-
-
-def cells(section, head):
-    """The first cells of the tables of a section of FORMAT whose first head this is, taken apart at commas between code."""
+def rows(section, head):
+    """The cells of the rows of the tables of a section of FORMAT whose first head this is."""
     part = re.search(rf"(?ms)^## {re.escape(section)}\n(.*?)(?=^## |\Z)", text_of("docs/FORMAT.md"))[1]
     for table in re.findall(rf"(?m)^\| {head} \|.*\n\|[-|]+\n((?:\|.*\n)*)", part):
         for row in table.splitlines():
-            yield from re.findall(r"`([^`]*)`", row.split(" | ")[0])
+            yield [cell.strip() for cell in row.strip("| ").split(" | ")]
 
 
 def forms():
@@ -177,12 +174,65 @@ def forms():
     return written["run"], written["live"]
 
 
-def check_formats():
-    keys = "crates/files/src/known_keys.rt"
-    run, live, walk = (set(cells(f"A file for `{command}`", "key")) for command in ("run", "live", "walk"))
-    yield run == listed_in(keys, "RUN_KEYS"), "FORMAT has other keys of run than the code"
-    yield run - {"steps"} | live == listed_in(keys, "LIVE_KEYS"), "FORMAT has other keys of live than the code"
-    yield walk == listed_in(keys, "WALK_KEYS"), "FORMAT has other keys of walk than the code"
+def cells(section, head):
+    """The first cells of such rows, taken apart at commas between code."""
+    for row in rows(section, head):
+        yield from re.findall(r"`([^`]*)`", row[0])
+
+
+def key_lists():
+    """The keys of each command in the code's table, by their names and in its order."""
+    names = dict(re.findall(r'Key::(\w+) => "(\w+)"', text_of(KEY_TABLE)))
+    for command in ("run", "live", "walk"):
+        keys = re.search(rf"const {command.upper()}_KEYS: \[Key; \d+\] = \[(.*?)\];", text_of(KEY_TABLE), re.S)[1]
+        yield [names[key] for key in re.findall(r"Key::(\w+)", keys)]
+
+
+def number_of(expression):
+    """The number that an expression of the code's table is: a field of the default configuration, or a constant."""
+    field = re.search(r"default\.(\w+)", expression)
+    if field:
+        wanted = r"Config::with_harts\((\w+)\)" if field[1] == "harts" else rf"\b{field[1]}: (\d\w*),"
+        return int(re.search(wanted, text_of("crates/spaces/src/configuration.rt"))[1], 0)
+    return int(re.search(rf"const {expression}: \w+ = (\w+);", text_of(KEY_TABLE))[1])
+
+
+def check_keys(program):
+    run, live, walk = key_lists()
+    told = {command: list(cells(f"A file for `{command}`", "key")) for command in ("run", "live", "walk")}
+    yield sorted(told["run"]) == sorted(run), "FORMAT has other keys of run than the code"
+    yield sorted(set(told["run"]) - {"steps"} | set(told["live"])) == sorted(live), "FORMAT has other keys of live than the code"
+    yield told["walk"] == walk, "FORMAT has other keys of walk than the code, or in another order"
+    order = re.search(r"Keys come as (.*?), `steps` \(of `live` (.*?)\), `mode`", text_of("docs/FORMAT.md"))
+    first, own = (re.findall(r"`(\w+)`", part) for part in order.groups())
+    yield first + ["steps", "mode"] == run and first + own + ["mode"] == live, "FORMAT has the keys in another order than the code"
+    alone = re.search(r"`live` if it has (.*?), else `walk` if it has (.*?), else `run`", text_of("docs/FORMAT.md"))
+    own = [re.findall(r"`(\w+)`", part) for part in alone.groups()]
+    others = [[key for key in mine if key not in run + theirs] for mine, theirs in ((live, walk), (walk, live))]
+    yield own == others, "FORMAT has other keys of one command than the code"
+    yield from check_numbers(program)
+
+
+def check_numbers(program):
+    """The limits of whole numbers are those that the program tells, and the default of each number is that of the code's table."""
+    kinds = dict(re.findall(r"Key::(\w+) => (?:from_one|ppn)\(.*, ([^,]*)\),", text_of(KEY_TABLE)))
+    defaults = {key.lower(): number_of(default) for key, default in kinds.items()}
+    for command in ("run", "live", "walk"):
+        for cell, value, default in rows(f"A file for `{command}`", "key"):
+            key, limits = cell.strip("`"), re.match(r"whole number, (\d+) to (\d+)", value)
+            if limits:
+                with tempfile.NamedTemporaryFile("w", suffix=".toml") as file:
+                    file.write(f'{key} = "x"\n')
+                    file.flush()
+                    printed = printed_by(program, "check", file.name)
+                yield f"a whole number from {limits[1]} to {limits[2]} is expected" in printed, f"FORMAT has other limits of {key} than the program"
+            if key in defaults:
+                yield int(default.strip("`\""), 0) == defaults.pop(key), f"FORMAT has another default of {key} than the code"
+    yield not defaults, f"FORMAT has no default of {', '.join(defaults)}"
+
+
+def check_formats(program):
+    yield from check_keys(program)
     steps = set(cells("A file for `run`", "step"))
     of_run, of_live = forms()
     yield steps == of_run, "FORMAT has other steps of run than the code"
@@ -213,7 +263,7 @@ def checks(program):
     for page in pages:
         yield from check_links(page)
     yield from check_help(program)
-    yield from check_formats()
+    yield from check_formats(program)
     yield from check_sizes(pages)
 
 

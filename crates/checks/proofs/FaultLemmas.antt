@@ -9,8 +9,8 @@ use Rattle.files.specs.LiveFile.{live_scenario_of}
 use Rattle.files.specs.RunFile.{run_scenario_of}
 use Rattle.files.specs.WalkFile.{walk_scenario_of}
 use Rattle.checks.specs.Told.{fault_for, fault_in_members, is_memory}
-use Rattle.checks.specs.declared.commands.Command.{Command}
-use Rattle.checks.specs.declared.commands.Command.TheVariants.{Walk, Run, Live}
+use Rattle.files.specs.declared.key_table.Command.{Command}
+use Rattle.files.specs.declared.key_table.Command.TheVariants.{Walk, Run, Live}
 
 pub failing : {Y : Type 0} → (fault : Fault) → (read : Result Y Failure) → is_memory fault ≡ false → Fails fault read → Some (failure_of fault) ≡ option_map Some (fault_in read)
 failing faults.NotToml read known is = ap (λ r. option_map Some (fault_in r)) (sym is)

@@ -1,16 +1,20 @@
 -- What is reported of a text: the command that it is for, its first fault, and the lines.
-use Rattle.std.specs.Prelude.{ℕ, ◌≡◌, ◌==◌, ◌||◌, Bool, true, false, nat_lt, List, [], ◌∷◌, ◌++◌, length, codes, Option, Some, None, if◌then◌else◌}
+use Rattle.std.specs.Prelude.{ℕ, ◌≡◌, ◌==◌, Bool, true, false, nat_lt, List, [], ◌∷◌, ◌++◌, length, codes, Option, Some, None, if◌then◌else◌}
 use Rattle.std.specs.Fmt.{decimal}
-use Rattle.toml.specs.Data.{Members, get_member}
+use Rattle.std.specs.List.{list_any}
+use Rattle.toml.specs.Data.{Members}
 use Rattle.toml.specs.Parse.{parse_document}
 use Rattle.files.specs.Faults.{Failure, fault_in, not_toml}
 use Rattle.files.specs.declared.fault.Fault.{Fault}
 use Rattle.files.specs.declared.fault.Fault.TheVariants as faults
-use Rattle.files.specs.LiveFile.{live_keys, live_plan_of, live_scenario_of}
-use Rattle.files.specs.RunFile.{run_keys, run_plan_of, run_scenario_of}
-use Rattle.files.specs.WalkFile.{walk_keys, walk_plan_of, walk_scenario_of}
-use Rattle.checks.specs.declared.commands.Command.{Command}
-use Rattle.checks.specs.declared.commands.Command.TheVariants.{Walk, Run, Live}
+use Rattle.files.specs.LiveFile.{live_plan_of, live_scenario_of}
+use Rattle.files.specs.RunFile.{run_plan_of, run_scenario_of}
+use Rattle.files.specs.WalkFile.{walk_plan_of, walk_scenario_of}
+use Rattle.files.specs.Keys.{member_of}
+use Rattle.files.specs.KeyTable.{command_name, own_keys}
+use Rattle.files.specs.declared.key_table.Command.{Command}
+use Rattle.files.specs.declared.key_table.Command.TheVariants.{Walk, Run, Live}
+use Rattle.files.specs.declared.key_table.Key.{Key}
 
 -- ---- the command
 
@@ -18,32 +22,15 @@ abbrev pub is_there : {X : Type 0} → Option X → Bool
 is_there None = false
 is_there (Some x) = true
 
-abbrev pub has_key : List ℕ → Members → Bool
-has_key key ms = is_there (get_member key ms)
+abbrev pub has_key : Members → Key → Bool
+has_key ms key = is_there (member_of key ms)
 
--- a key that `live` alone knows
-abbrev pub has_live_key : Members → Bool
-has_live_key ms =
-    has_key (codes "setup") ms || (has_key (codes "scripts") ms || has_key (codes "turns") ms)
-
--- a key that `walk` alone knows
-abbrev pub has_walk_key : Members → Bool
-has_walk_key ms =
-    has_key (codes "root") ms || (has_key (codes "frames") ms || has_key (codes "words") ms)
+-- a key that no other command knows
+abbrev pub has_own_key : Command → Members → Bool
+has_own_key command ms = list_any (has_key ms) (own_keys command)
 
 abbrev pub command_of : Members → Command
-command_of ms = if has_live_key ms then Live else if has_walk_key ms then Walk else Run
-
-abbrev pub name_of : Command → List ℕ
-name_of Walk = codes "walk"
-name_of Run = codes "run"
-name_of Live = codes "live"
-
--- the keys that it knows
-abbrev pub keys_of : Command → List (List ℕ)
-keys_of Walk = walk_keys
-keys_of Run = run_keys
-keys_of Live = live_keys
+command_of ms = if has_own_key Live ms then Live else if has_own_key Walk ms then Walk else Run
 
 -- ---- the first fault
 
@@ -86,7 +73,7 @@ IsStillTrue before after = before ≡ true → after ≡ true
 
 abbrev pub name_by : Option Members → List ℕ
 name_by None = codes "no command"
-name_by (Some ms) = name_of (command_of ms)
+name_by (Some ms) = command_name (command_of ms)
 
 abbrev pub lines_text : List (List ℕ) → List ℕ
 lines_text [] = []

@@ -4,10 +4,11 @@ ghost use Rattle.toml.specs.Parse.{parse_document};
 ghost use Rattle.toml.specs.View.{table_view};
 ghost use Rattle.files.specs.Faults.{failure_of, fault_in};
 ghost use Rattle.files.specs.declared.fault.Fault.TheVariants.{NotToml};
+ghost use Rattle.files.specs.KeyTable.{command_name};
 ghost use Rattle.files.specs.LiveFile.{live_plan_of};
 ghost use Rattle.files.specs.RunFile.{run_plan_of};
 ghost use Rattle.files.specs.WalkFile.{walk_plan_of};
-ghost use Rattle.checks.specs.Told.{IsStillTrue, command_of, fault_for, fault_in_members, fault_of, is_memory, last_text, lines_text, most_told, name_by, name_of, whole_text};
+ghost use Rattle.checks.specs.Told.{IsStillTrue, command_of, fault_for, fault_in_members, fault_of, is_memory, last_text, lines_text, most_told, name_by, whole_text};
 
 use crate::commands::{Command, command_of};
 use crate::keys_known::tell_unknown;
@@ -238,7 +239,7 @@ fn check_table(alloc: Global, text: &str, table: &Table) -> Result<Checked, Allo
     ensures told { IfOk result (λ checked. (checked.fault ≡ None) ↔ (vec_len checked.lines ≡ 0)) }
     ensures few { IfOk result (λ checked. vec_len checked.lines ≤ most_told) }
     ensures text { IfOk result (λ checked. string_bytes checked.text ≡ whole_text
-        (name_of (command_of (table_view table.now))) (map string_bytes checked.lines.items)) }
+        (command_name (command_of (table_view table.now))) (map string_bytes checked.lines.items)) }
 {
     let command = command_of(table);
     let fault = fault_in_table(alloc, command, table)?;

@@ -1,37 +1,47 @@
 //! Keys that the command does not know.
-ghost use Rattle.std.specs.Prelude.{◌≡◌};
-ghost use Rattle.files.specs.Keys.{is_known, key_texts};
-ghost use Rattle.checks.specs.Told.{IsStillTrue, keys_of};
+ghost use Rattle.std.specs.Prelude.{◌≡◌, map, option_map};
+ghost use Rattle.files.specs.KeyTable.{name_of};
+ghost use Rattle.checks.specs.Near.{first_near, nearest};
+ghost use Rattle.checks.specs.Told.{IsStillTrue};
 
-use crate::commands::Command;
-use crate::near::nearest;
+use crate::near::is_near;
 use crate::report::{Piece, Report};
 use crate::values::Document;
+use files::{Command, Key};
 
-/// Whether the command knows the key.
-fn knows(command: Command, key: &str) -> bool
-    ensures { result ≡ is_known (keys_of command) key.now }
+/// The first of the keys whose name is so near to a word.
+fn first_near(edits: u8, word: &str, keys: &[Key]) -> Option<Key>
+    ensures { option_map name_of result ≡ first_near edits word.now (map name_of keys.now) }
 {
-    has_text(command.keys(), key)
+    match keys {
+        [] => None,
+        [key, rest @ ..] => {
+            if is_near(edits, word.as_bytes(), key.name().as_bytes()) {
+                Some(*key)
+            } else {
+                first_near(edits, word, rest)
+            }
+        }
+    }
 }
 
-/// Whether a text is one of these.
-fn has_text(texts: &[&str], key: &str) -> bool
-    ensures { result ≡ is_known (key_texts texts.now) key.now }
+/// The key that a word is meant to be perhaps.
+fn nearest(word: &str, keys: &[Key]) -> Option<Key>
+    ensures { option_map name_of result ≡ nearest word.now (map name_of keys.now) }
 {
-    match texts {
-        [] => false,
-        [first, rest @ ..] => key == *first || has_text(rest, key),
+    match first_near(1, word, keys) {
+        Some(key) => Some(key),
+        None => first_near(2, word, keys),
     }
 }
 
 /// The first other command that knows the key.
 fn other_that_knows(key: &str) -> Option<Command> {
-    if knows(Command::Run, key) {
+    if Command::Run.knows(key) {
         Some(Command::Run)
-    } else if knows(Command::Live, key) {
+    } else if Command::Live.knows(key) {
         Some(Command::Live)
-    } else if knows(Command::Walk, key) {
+    } else if Command::Walk.knows(key) {
         Some(Command::Walk)
     } else {
         None
@@ -39,7 +49,7 @@ fn other_that_knows(key: &str) -> Option<Command> {
 }
 
 /// The key that is meant perhaps, and a command that knows it.
-fn nearest_of_others(key: &str) -> Option<(&'static str, Command)> {
+fn nearest_of_others(key: &str) -> Option<(Key, Command)> {
     for command in [Command::Live, Command::Walk, Command::Run] {
         if let Some(meant) = nearest(key, command.keys()) {
             return Some((meant, command));
@@ -56,7 +66,7 @@ pub fn tell_unknown(report: &mut Report, document: &Document<'_>, command: Comma
         if report.is_full() {
             break;
         }
-        if !knows(command, key.as_str()) {
+        if !command.knows(key.as_str()) {
             tell_unknown_key(report, document, command, key.as_str());
         }
     }
@@ -79,13 +89,17 @@ fn tell_unknown_key(report: &mut Report, document: &Document<'_>, command: Comma
     }
     let (none, perhaps) = (Piece::Text("no key of "), Piece::Text("; perhaps "));
     if let Some(meant) = nearest(key, command.keys()) {
-        document.tell(report, key, &[none, this, perhaps, Piece::Text(meant)]);
+        document.tell(
+            report,
+            key,
+            &[none, this, perhaps, Piece::Text(meant.name())],
+        );
         return;
     }
     match nearest_of_others(key) {
         Some((meant, other)) => {
             let (of, other) = (Piece::Text(" of "), Piece::Text(other.name()));
-            let what = [none, this, perhaps, Piece::Text(meant), of, other];
+            let what = [none, this, perhaps, Piece::Text(meant.name()), of, other];
             document.tell(report, key, &what);
         }
         None => document.tell(report, key, &[none, this]),

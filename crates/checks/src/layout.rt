@@ -4,8 +4,9 @@ ghost use Rattle.checks.specs.Told.{IsStillTrue};
 use crate::report::{Piece, Report};
 use crate::spaces_told::tell_spaces;
 use crate::values::{Document, kind};
+use files::{Command, Key};
 use pte::PPN_LIMIT;
-use spaces::{Config, DEFAULT_SPARES, MAX_CAPACITY, MAX_HARTS, MAX_WINDOW};
+use spaces::{DEFAULT_SPARES, MAX_HARTS};
 use toml::Value;
 
 /// Reports what is wrong with the keys of the layout, where at most `most_frames` frames are
@@ -13,20 +14,15 @@ use toml::Value;
 pub fn tell_layout(report: &mut Report, document: &Document<'_>, most_frames: u64) -> Option<u8>
     ensures { IsStillTrue report.old.is_out_of_memory report.new.is_out_of_memory }
 {
-    let default = Config::default();
-    let (harts, window) = (i64::from(default.harts), i64::from(default.window));
-    let harts = document.whole(report, "harts", (1, MAX_HARTS as i64), harts);
+    document.tell_numbers(report, Command::Run.keys());
+    let harts = document.whole(Key::Harts);
     let harts = harts.and_then(|harts| u8::try_from(harts).ok());
-    let window = document.whole(report, "window", (1, i64::from(MAX_WINDOW)), window);
-    let window = window.and_then(|window| u64::try_from(window).ok());
-    let base = document.ppn(report, "base", None, default.base);
-    let capacity = i64::from(default.capacity);
-    let _capacity = document.whole(report, "capacity", (1, MAX_CAPACITY as i64), capacity);
     let spares = tell_spares(report, document, harts);
     let spaces = tell_spaces(report, document, harts);
+    let window = document.whole(Key::Window);
     if let (Some(window), Some(spaces), Some(spares)) = (window, spaces, spares) {
-        let parts = [window, spaces as u64, spares];
-        tell_frames(report, parts, base, most_frames);
+        let parts = [u64::from(window), spaces as u64, spares];
+        tell_frames(report, parts, document.ppn(Key::Base), most_frames);
     }
     harts
 }
@@ -36,7 +32,7 @@ pub fn tell_layout(report: &mut Report, document: &Document<'_>, most_frames: u6
 fn tell_spares(report: &mut Report, document: &Document<'_>, harts: Option<u8>) -> Option<u64>
     ensures { IsStillTrue report.old.is_out_of_memory report.new.is_out_of_memory }
 {
-    let Some(value) = document.value("spares") else {
+    let Some(value) = document.value(Key::Spares.name()) else {
         return harts.map(|harts| u64::from(DEFAULT_SPARES).saturating_mul(u64::from(harts)));
     };
     let Some(values) = value.as_array() else {
@@ -46,7 +42,7 @@ fn tell_spares(report: &mut Report, document: &Document<'_>, harts: Option<u8>) 
             Piece::Text(", not "),
             Piece::Text(kind(value)),
         ];
-        document.tell(report, "spares", &what);
+        document.tell(report, Key::Spares.name(), &what);
         return None;
     };
     tell_count(report, document, harts, values.len());
@@ -67,7 +63,7 @@ fn tell_count(report: &mut Report, document: &Document<'_>, harts: Option<u8>, c
                 Piece::Number(u64::from(harts)),
                 Piece::Text(": one number for each hart is expected"),
             ];
-            document.tell(report, "spares", &what)
+            document.tell(report, Key::Spares.name(), &what)
         }
         None if count > MAX_HARTS => {
             let what = [
@@ -77,7 +73,7 @@ fn tell_count(report: &mut Report, document: &Document<'_>, harts: Option<u8>, c
                 Piece::Number(MAX_HARTS as u64),
                 Piece::Text(" harts is expected"),
             ];
-            document.tell(report, "spares", &what)
+            document.tell(report, Key::Spares.name(), &what)
         }
         _ => {}
     }
@@ -113,12 +109,12 @@ fn tell_spare(report: &mut Report, document: &Document<'_>, hart: usize, value: 
         Some(n) => {
             let limits = Piece::Text(" is not from 0 to 65535");
             let what = [place, hart, Piece::Text(": "), Piece::Whole(n), limits];
-            document.tell(report, "spares", &what)
+            document.tell(report, Key::Spares.name(), &what)
         }
         None => {
             let expected = Piece::Text(": a whole number is expected, not ");
             let what = [place, hart, expected, Piece::Text(kind(value))];
-            document.tell(report, "spares", &what)
+            document.tell(report, Key::Spares.name(), &what)
         }
     }
 }

@@ -5,9 +5,13 @@ use crate::places::Place;
 use crate::report::{Piece, Report, Spot};
 use crate::split::{text_of, word_at};
 use crate::values::{Document, text_in};
+use files::Key;
 use spaces::{Config, MAX_HARTS, MAX_SPACES};
 use steps::num;
 use toml::Value;
+
+/// What the value of `spaces` is.
+const SPACE_TEXTS: &str = "an array of 1 to 32 texts HOME ASID";
 
 /// The words HOME and ASID of a space, if it has just two words.
 fn words_of(text: &str) -> Option<(&[u8], &[u8])> {
@@ -49,11 +53,10 @@ fn space_with(values: &[Value], harts: u64, asid: u64) -> Option<usize> {
 pub fn tell_spaces(report: &mut Report, document: &Document<'_>, harts: Option<u8>) -> Option<usize>
     ensures { IsStillTrue report.old.is_out_of_memory report.new.is_out_of_memory }
 {
-    if document.value("spaces").is_none() {
+    if document.value(Key::Spaces.name()).is_none() {
         return Some(Config::default().spaces.len());
     }
-    let Some(values) = document.texts(report, "spaces", "an array of 1 to 32 texts HOME ASID")
-    else {
+    let Some(values) = document.texts(report, Key::Spaces.name(), SPACE_TEXTS) else {
         return None;
     };
     tell_count(report, document, values.len());
@@ -73,7 +76,7 @@ fn tell_count(report: &mut Report, document: &Document<'_>, count: usize)
         Piece::Text(" spaces are not from 1 to "),
         Piece::Number(MAX_SPACES as u64),
     ];
-    document.tell(report, "spaces", &what)
+    document.tell(report, Key::Spaces.name(), &what)
 }
 
 /// Reports each space that is wrong, or has the ASID of an earlier one.
@@ -81,7 +84,7 @@ fn tell_each(report: &mut Report, document: &Document<'_>, harts: Option<u8>, va
     ensures { IsStillTrue report.old.is_out_of_memory report.new.is_out_of_memory }
 {
     let harts = u64::from(harts.unwrap_or(MAX_HARTS as u8));
-    let place = Place::of_key(report, document.text, "spaces");
+    let place = Place::of_key(report, document.text, Key::Spaces.name());
     tell_each_at(report, &place, harts, values)
 }
 

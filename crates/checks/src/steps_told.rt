@@ -7,7 +7,7 @@ use crate::report::{Piece, Report, Spot};
 use crate::step_texts::{List, Reader};
 use crate::tables_told::tell_tables;
 use crate::values::{Document, text_in, texts_in};
-use files::{DEFAULT_TURNS, MOST_STEPS};
+use files::{Command, MOST_STEPS};
 use pte::Scheme;
 use spaces::{MAX_FRAMES, MAX_HARTS, MAX_LIVE_FRAMES};
 use steps::StepFault;
@@ -230,8 +230,7 @@ pub fn tell_live(report: &mut Report, document: &Document<'_>)
     let harts = harts.unwrap_or(MAX_HARTS as u8);
     let setup = document.texts(report, "setup", "an array of texts");
     tell_shape(report, document, harts);
-    let turns = (1, i64::from(u32::MAX));
-    let _turns = document.whole(report, "turns", turns, i64::from(DEFAULT_TURNS));
+    document.tell_numbers(report, Command::Live.own_keys());
     let scheme = document.mode(report).unwrap_or(Scheme::Sv48);
     let reader = Reader {
         list: List::Setup,

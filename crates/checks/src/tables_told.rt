@@ -5,12 +5,17 @@ use crate::places::Place;
 use crate::report::{Piece, Report, Spot};
 use crate::split::{number_of, text_of, word_at};
 use crate::values::{Document, text_in, texts_in};
-use files::MOST_FRAMES;
+use files::{Command, Key, MOST_FRAMES};
 use pte::{PPN_LIMIT, TABLE_LENGTH};
-use spaces::Config;
 use std::alloc::AllocError;
 use steps::num;
 use toml::Value;
+
+/// What the value of `frames` is.
+const FRAME_TEXTS: &str = "an array of texts PPN";
+
+/// What the value of `words` is.
+const WORD_TEXTS: &str = "an array of texts PPN INDEX WORD";
 
 /// What is wrong with a word of `PPN INDEX WORD` that is wrong.
 const WRONG_PARTS: [&str; 3] = [
@@ -23,9 +28,9 @@ const WRONG_PARTS: [&str; 3] = [
 pub fn tell_tables(report: &mut Report, document: &Document<'_>)
     ensures { IsStillTrue report.old.is_out_of_memory report.new.is_out_of_memory }
 {
-    let _root = document.ppn(report, "root", Some(PPN_LIMIT), Config::default().base);
+    document.tell_numbers(report, Command::Walk.own_keys());
     tell_frames(report, document);
-    if let Some(values) = document.texts(report, "words", "an array of texts PPN INDEX WORD") {
+    if let Some(values) = document.texts(report, Key::Words.name(), WORD_TEXTS) {
         tell_words(report, document, values);
     }
 }
@@ -34,7 +39,7 @@ pub fn tell_tables(report: &mut Report, document: &Document<'_>)
 fn tell_frames(report: &mut Report, document: &Document<'_>)
     ensures { IsStillTrue report.old.is_out_of_memory report.new.is_out_of_memory }
 {
-    let Some(values) = document.texts(report, "frames", "an array of texts PPN") else {
+    let Some(values) = document.texts(report, Key::Frames.name(), FRAME_TEXTS) else {
         return;
     };
     if values.len() > MOST_FRAMES {
@@ -43,9 +48,9 @@ fn tell_frames(report: &mut Report, document: &Document<'_>)
             Piece::Text(" frames are more than "),
             Piece::Number(MOST_FRAMES as u64),
         ];
-        document.tell(report, "frames", &what);
+        document.tell(report, Key::Frames.name(), &what);
     }
-    let place = Place::of_key(report, document.text, "frames");
+    let place = Place::of_key(report, document.text, Key::Frames.name());
     tell_each_frame(report, &place, values)
 }
 
@@ -87,7 +92,7 @@ fn frames_of(report: &mut Report, document: &Document<'_>) -> Option<Vec<u64>>
     ensures { IsStillTrue report.old.is_out_of_memory report.new.is_out_of_memory }
 {
     let mut ppns = Vec::new(report.alloc);
-    let values = match document.value("frames") {
+    let values = match document.value(Key::Frames.name()) {
         Some(value) => texts_in(value),
         None => return Some(ppns),
     };
@@ -115,7 +120,7 @@ fn push_ppns(ppns: &mut Vec<u64>, values: &[Value]) -> Result<(), AllocError> {
 fn tell_words(report: &mut Report, document: &Document<'_>, values: &[Value])
     ensures { IsStillTrue report.old.is_out_of_memory report.new.is_out_of_memory }
 {
-    let place = Place::of_key(report, document.text, "words");
+    let place = Place::of_key(report, document.text, Key::Words.name());
     let frames = frames_of(report, document);
     tell_each_word(report, &place, frames.as_ref(), values);
 }

@@ -4,6 +4,7 @@ ghost use Rattle.checks.specs.Told.{IsStillTrue};
 use crate::places::Place;
 use crate::report::{Piece, Report, Spot};
 use crate::split::number_of;
+use files::{Key, Kind};
 use pte::Scheme;
 use spaces::Config;
 use steps::next_word;
@@ -66,26 +67,67 @@ impl<'a> Document<'a> {
         self.tell(report, key, &what)
     }
 
-    /// The whole number from `least` to `most` at a key, or else the default. `None`: it is wrong,
-    /// and that is reported.
-    pub fn whole(
-        &self,
-        report: &mut Report,
-        key: &str,
-        range: (i64, i64),
-        default: i64,
-    ) -> Option<i64>
+    /// The whole number at a key, or else its default. `None`: it is wrong, or the key has another
+    /// kind.
+    pub fn whole(&self, key: Key) -> Option<u32> {
+        match key.kind() {
+            Kind::Whole {
+                least,
+                most,
+                default,
+            } => match self.value(key.name()) {
+                Some(value) => whole_in(value, least, most),
+                None => Some(default),
+            },
+            Kind::Ppn { .. } | Kind::Scheme | Kind::Spares | Kind::Texts | Kind::Scripts => None,
+        }
+    }
+
+    /// The PPN at a key, or else its default. `None`: it is wrong, or the key has another kind.
+    pub fn ppn(&self, key: Key) -> Option<u64> {
+        match key.kind() {
+            Kind::Ppn { limit, default } => match self.value(key.name()) {
+                Some(value) => ppn_in(value, limit),
+                None => Some(default),
+            },
+            Kind::Whole { .. } | Kind::Scheme | Kind::Spares | Kind::Texts | Kind::Scripts => None,
+        }
+    }
+
+    /// Reports what is wrong with the values of those of the keys that have numbers.
+    pub fn tell_numbers(&self, report: &mut Report, keys: &[Key])
         ensures { IsStillTrue report.old.is_out_of_memory report.new.is_out_of_memory }
     {
-        let Some(value) = self.value(key) else {
-            return Some(default);
-        };
+        for key in keys {
+            if let Some(value) = self.value(key.name()) {
+                self.tell_number(report, *key, value);
+            }
+        }
+    }
+
+    /// Reports what is wrong with a value, if it is to be a number.
+    fn tell_number(&self, report: &mut Report, key: Key, value: &Value)
+        ensures { IsStillTrue report.old.is_out_of_memory report.new.is_out_of_memory }
+    {
+        match key.kind() {
+            Kind::Whole { least, most, .. } => {
+                let range = (i64::from(least), i64::from(most));
+                self.tell_whole(report, key.name(), range, value)
+            }
+            Kind::Ppn { limit, .. } => self.tell_ppn(report, key.name(), limit, value),
+            Kind::Scheme | Kind::Spares | Kind::Texts | Kind::Scripts => {}
+        }
+    }
+
+    /// Reports whether a value is no whole number within the range.
+    fn tell_whole(&self, report: &mut Report, key: &str, range: (i64, i64), value: &Value)
+        ensures { IsStillTrue report.old.is_out_of_memory report.new.is_out_of_memory }
+    {
         match value.as_integer() {
-            Some(n) if n >= range.0 && n <= range.1 => return Some(n),
+            Some(n) if n >= range.0 && n <= range.1 => {}
             Some(n) => self.tell_outside(report, key, range, n),
             None => self.tell_no_whole(report, key, range, value),
         }
-        None
     }
 
     fn tell_outside(&self, report: &mut Report, key: &str, range: (i64, i64), n: i64)
@@ -115,20 +157,10 @@ impl<'a> Document<'a> {
         self.tell(report, key, &what)
     }
 
-    /// The number, below `limit` if there is one, that the text at a key writes, or else the
-    /// default.
-    pub fn ppn(
-        &self,
-        report: &mut Report,
-        key: &str,
-        limit: Option<u64>,
-        default: u64,
-    ) -> Option<u64>
+    /// Reports whether a value is no text of one number, below `limit` if there is one.
+    fn tell_ppn(&self, report: &mut Report, key: &str, limit: Option<u64>, value: &Value)
         ensures { IsStillTrue report.old.is_out_of_memory report.new.is_out_of_memory }
     {
-        let Some(value) = self.value(key) else {
-            return Some(default);
-        };
         let Some(text) = value.as_str() else {
             let expected = "a text of a number is expected, as \"0x80000\"";
             let what = [
@@ -137,26 +169,25 @@ impl<'a> Document<'a> {
                 Piece::Text(kind(value)),
             ];
             self.tell(report, key, &what);
-            return None;
+            return;
         };
         let why = match number_of(text) {
             None => NO_NUMBER,
-            Some(n) if limit.is_some_and(|limit| n >= limit) => " is not below 2^44",
-            Some(n) => return Some(n),
+            Some(n) if is_below(n, limit) => return,
+            Some(_) => " is not below 2^44",
         };
-        self.tell(report, key, &[Piece::Word(text), Piece::Text(why)]);
-        None
+        self.tell(report, key, &[Piece::Word(text), Piece::Text(why)])
     }
 
     /// The scheme of the key `mode`.
     pub fn mode(&self, report: &mut Report) -> Option<Scheme>
         ensures { IsStillTrue report.old.is_out_of_memory report.new.is_out_of_memory }
     {
-        let Some(value) = self.value("mode") else {
+        let Some(value) = self.value(Key::Mode.name()) else {
             return Some(Config::default().scheme);
         };
         let Some(text) = value.as_str() else {
-            self.tell_kind(report, "mode", "a text sv39 or sv48", value);
+            self.tell_kind(report, Key::Mode.name(), "a text sv39 or sv48", value);
             return None;
         };
         if is_only_word(text, "sv39") {
@@ -166,7 +197,7 @@ impl<'a> Document<'a> {
             return Some(Scheme::Sv48);
         }
         let what = [Piece::Word(text), Piece::Text(" is neither sv39 nor sv48")];
-        self.tell(report, "mode", &what);
+        self.tell(report, Key::Mode.name(), &what);
         None
     }
 
@@ -214,6 +245,30 @@ impl<'a> Document<'a> {
             Piece::Text(", and a text is expected"),
         ];
         self.tell(report, key, &what)
+    }
+}
+
+/// The whole number that a value is, if it is within the range.
+fn whole_in(value: &Value, least: u32, most: u32) -> Option<u32> {
+    let n = value.as_integer()?;
+    let n = u32::try_from(n).ok()?;
+    if n >= least && n <= most {
+        Some(n)
+    } else {
+        None
+    }
+}
+
+/// The number that the text of a value writes, if it is below the limit.
+fn ppn_in(value: &Value, limit: Option<u64>) -> Option<u64> {
+    let n = number_of(value.as_str()?)?;
+    if is_below(n, limit) { Some(n) } else { None }
+}
+
+fn is_below(n: u64, limit: Option<u64>) -> bool {
+    match limit {
+        Some(limit) => n < limit,
+        None => true,
     }
 }
 

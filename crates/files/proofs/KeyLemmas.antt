@@ -1,7 +1,5 @@
 -- The least unknown key: its law, and that it is the first of a map's keys.
-use Rattle.std.proofs.Common.{◌≡◌, ℕ, Bool, true, false, not, ◌||◌, List, [], ◌∷◌, Option, Some, None, option_map, String, Global, string_bytes, string_cmp, find, Bor, Less, Greater, nat_cmp, refl, ap, subst, ◌∙◌, inl, inr}
-use Rattle.std.specs.List.{list_any}
-use Rattle.std.specs.Str.{bytes_eq}
+use Rattle.std.proofs.Common.{◌≡◌, ℕ, Bool, true, false, not, List, [], ◌∷◌, Option, Some, None, option_map, String, Global, string_bytes, string_cmp, find, Bor, Less, Greater, nat_cmp, refl, ap, subst, ◌∙◌, inl, inr}
 use Rattle.std.specs.Cmp.{IsStrictWeakOrder}
 use Rattle.std.specs.Cmp.Lexicographic.{slice_cmp}
 use Rattle.std.specs.List.{AllByRecursion}
@@ -15,7 +13,7 @@ use Rattle.std.proofs.lemmas.Option.{same_Some}
 use Rattle.toml.specs.Data.{Data, Members, no_members, member}
 use Rattle.toml.specs.View.{members_view}
 use Rattle.toml.proofs.Views.{Entry}
-use Rattle.files.specs.Keys.{HasKey, is_before, is_known, key_texts, IsLeastUnknown, least_unknown, lesser}
+use Rattle.files.specs.Keys.{HasKey, is_before, is_known, IsLeastUnknown, least_unknown, lesser}
 
 texts_ordered : IsStrictWeakOrder is_before
 texts_ordered = ranks_by nat_list_cmp_total (λ (text : List ℕ). text)
@@ -134,7 +132,3 @@ least_unknown-find known (e ∷ es) sorted = one_more known e es sorted.0 (least
 pub option_map-now : (r : Option (Bor (String Global))) → option_map (λ key. string_bytes key.now) r ≡ option_map string_bytes (option_map (λ key. key.now) r)
 option_map-now None = refl
 option_map-now (Some x) = refl
-
-pub known_texts : (known : List (Bor (List ℕ))) (key : List ℕ) → list_any (λ name. bytes_eq key name.now) known ≡ is_known (key_texts known) key
-known_texts [] key = refl
-known_texts (name ∷ known) key = ap (λ rest. bytes_eq key name.now || rest) (known_texts known key)

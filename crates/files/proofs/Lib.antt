@@ -4,4 +4,5 @@ pub mod StepLemmas
 pub mod MemoryLemmas
 pub mod PpnLemmas
 pub mod ScriptLemmas
+pub mod TableLemmas
 pub mod TextLemmas

@@ -11,15 +11,13 @@ use Rattle.toml.specs.Data.{Data, as_str, as_array, Items, no_items, item, Membe
 use Rattle.steps.specs.Num.{num_of}
 use Rattle.steps.specs.Words.{words_of}
 use Rattle.files.specs.Faults.{Failure, wrong_key}
+use Rattle.files.specs.KeyTable.{name_of}
+use Rattle.files.specs.declared.key_table.Key.{Key}
 
 -- ---- unknown keys
 
 abbrev pub is_known : List (List ℕ) → List ℕ → Bool
 is_known known key = list_any (bytes_eq key) known
-
--- the texts of a list of keys
-abbrev pub key_texts : List (Bor (List ℕ)) → List (List ℕ)
-key_texts keys = map (λ key. key.now) keys
 
 -- the first text comes before the second by bytes
 abbrev pub is_before : List ℕ → List ℕ → Bool
@@ -56,10 +54,19 @@ pub record IsLeastUnknown (known : List (List ℕ)) (ms : Members) (key : List �
 
 -- ---- values
 
+abbrev pub member_of : Key → Members → Option Data
+member_of key ms = get_member (name_of key) ms
+
+abbrev pub wrong_value : Key → Failure
+wrong_value key = wrong_key (name_of key)
+
 -- what `read` makes of the value at a key, or the default where there is none
-abbrev pub value_or : {X : Type 0} → List ℕ → X → (Data → Option X) → Option Data → Result X Failure
+abbrev pub value_or : {X : Type 0} → Key → X → (Data → Option X) → Option Data → Result X Failure
 value_or key default read None = Ok default
-value_or key default read (Some d) = ok_or (read d) (wrong_key key)
+value_or key default read (Some d) = ok_or (read d) (wrong_value key)
+
+abbrev pub value_at : {X : Type 0} → Key → X → (Data → Option X) → Members → Result X Failure
+value_at key default read ms = value_or key default read (member_of key ms)
 
 -- each of them, or nothing where there is one that f refuses
 abbrev pub each : {X Y : Type 0} → (X → Option Y) → List X → Option (List Y)
@@ -85,8 +92,8 @@ listed (item d ds) = d ∷ listed ds
 abbrev pub texts_of : Data → Option (List (List ℕ))
 texts_of d = option_and_then (λ ds. each as_str (listed ds)) (as_array d)
 
-abbrev pub texts_at : List ℕ → Members → Result (List (List ℕ)) Failure
-texts_at key ms = value_or key [] texts_of (get_member key ms)
+abbrev pub texts_at : Key → Members → Result (List (List ℕ)) Failure
+texts_at key ms = value_at key [] texts_of ms
 
 -- the texts that references point to
 abbrev pub text_views : Vec (Bor (List ℕ)) Global → List (List ℕ)

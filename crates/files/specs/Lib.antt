@@ -1,3 +1,4 @@
+pub mod KeyTable
 pub mod Faults
 pub mod Keys
 pub mod Settings

@@ -1,17 +1,20 @@
 -- The scenario that a text for `live` is, or its first fault.
-use Rattle.std.specs.Prelude.{ℕ, ℤ, pos, negsuc, ◌+◌, ◌^◌, ◌==◌, codes, List, [], ◌∷◌, length, map, Option, None, option_and_then, Result, Ok, Err, if◌then◌else◌, Vec}
+use Rattle.std.specs.Prelude.{ℕ, ℤ, pos, negsuc, ◌+◌, ◌^◌, ◌==◌, List, [], length, map, Option, None, option_and_then, Result, Ok, Err, if◌then◌else◌, Vec}
 use Rattle.std.specs.declared.alloc.Global.{Global}
 use denote.Ref.{Bor}
 use Rattle.std.specs.List.{sum_by}
 use Rattle.std.specs.Option.{ok_or}
 use Rattle.std.specs.Str.{is_utf8}
-use Rattle.toml.specs.Data.{Data, as_array, as_integer, Members, get_member}
+use Rattle.toml.specs.Data.{Data, as_array, as_integer, Members}
 use Rattle.toml.specs.Parse.{parse_document}
 use Rattle.spaces.specs.declared.configuration.Config.{Config}
 use Rattle.spaces.specs.declared.configuration.TheConstants.{MAX_LIVE_FRAMES}
 use Rattle.history.specs.declared.live_step.LiveStep.{LiveStep}
 use Rattle.files.specs.Faults.{Failure, not_toml, ◌>>=◌}
-use Rattle.files.specs.Keys.{below, each, known_only, listed, text_views, texts_at, texts_of, value_or}
+use Rattle.files.specs.KeyTable.{default_turns, names_of}
+use Rattle.files.specs.declared.key_table.Command.TheVariants.{Live}
+use Rattle.files.specs.declared.key_table.Key.TheVariants as keys
+use Rattle.files.specs.Keys.{below, each, known_only, listed, text_views, texts_at, texts_of, value_at}
 use Rattle.files.specs.Settings.{at_most, checked, config_at, mode_at}
 use Rattle.files.specs.declared.plan.LiveScenario.{LiveScenario}
 use Rattle.files.specs.RunFile.{in_scheme}
@@ -37,12 +40,6 @@ live_view s =
       turns = s.turns;
     }
 
-abbrev pub live_keys : List (List ℕ)
-live_keys =
-    codes "harts" ∷ codes "window" ∷ codes "base" ∷ codes "capacity" ∷ codes "spares"
-    ∷ codes "spaces" ∷ codes "setup" ∷ codes "scripts"
-    ∷ codes "turns" ∷ codes "mode" ∷ []
-
 -- ---- the scripts and the turns
 
 -- the texts of each array, of which there are no more than harts
@@ -53,8 +50,7 @@ abbrev pub scripts_of : ℕ → Data → Option (List (List (List ℕ)))
 scripts_of harts d = option_and_then (λ ds. few_scripts harts (listed ds)) (as_array d)
 
 abbrev pub scripts_at : ℕ → Members → Result (List (List (List ℕ))) Failure
-scripts_at harts ms =
-    value_or (codes "scripts") [] (scripts_of harts) (get_member (codes "scripts") ms)
+scripts_at harts ms = value_at keys.Scripts [] (scripts_of harts) ms
 
 -- the texts that references point to
 abbrev pub script_views : Vec (Vec (Bor (List ℕ)) Global) Global → List (List (List ℕ))
@@ -69,7 +65,7 @@ abbrev pub turns_of : Data → Option ℕ
 turns_of d = option_and_then positive (as_integer d)
 
 abbrev pub turns_at : Members → Result ℕ Failure
-turns_at ms = value_or (codes "turns") 1000000 turns_of (get_member (codes "turns") ms)
+turns_at ms = value_at keys.Turns default_turns turns_of ms
 
 -- how many steps the setup and the scripts have together
 abbrev pub step_count : List (List ℕ) → List (List (List ℕ)) → ℕ
@@ -79,9 +75,9 @@ step_count setup scripts = length setup + sum_by length scripts
 
 unfoldable pub live_plan_of : Members → Result LivePlan Failure
 live_plan_of ms = do
-  _ ← known_only live_keys ms
+  _ ← known_only (names_of Live) ms
   config ← config_at ms
-  setup ← texts_at (codes "setup") ms
+  setup ← texts_at keys.Setup ms
   scripts ← scripts_at config.harts ms
   turns ← turns_at ms
   scheme ← mode_at ms

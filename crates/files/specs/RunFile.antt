@@ -1,5 +1,5 @@
 -- The scenario that a text for `run` is, or its first fault.
-use Rattle.std.specs.Prelude.{ℕ, codes, List, [], ◌∷◌, Result, Ok, Err, if◌then◌else◌}
+use Rattle.std.specs.Prelude.{ℕ, List, Result, Ok, Err, if◌then◌else◌}
 use Rattle.std.specs.Option.{ok_or}
 use Rattle.std.specs.Str.{is_utf8}
 use Rattle.toml.specs.Data.{Members}
@@ -10,6 +10,9 @@ use Rattle.spaces.specs.declared.configuration.TheConstants.{MAX_FRAMES}
 use Rattle.history.specs.declared.event.Event.{Event}
 use Rattle.files.specs.declared.plan.RunScenario.{RunScenario}
 use Rattle.files.specs.Faults.{Failure, not_toml, ◌>>=◌}
+use Rattle.files.specs.KeyTable.{names_of}
+use Rattle.files.specs.declared.key_table.Command.TheVariants.{Run}
+use Rattle.files.specs.declared.key_table.Key.TheVariants as keys
 use Rattle.files.specs.Keys.{known_only, texts_at}
 use Rattle.files.specs.Settings.{checked, config_at, mode_at}
 use Rattle.files.specs.StepTexts.{events_in, few}
@@ -22,20 +25,15 @@ pub record RunPlan : Type 0 where
 abbrev pub run_view : RunScenario → RunPlan
 run_view s = record { config = s.config; events = s.events.items }
 
-abbrev pub run_keys : List (List ℕ)
-run_keys =
-    codes "harts" ∷ codes "window" ∷ codes "base" ∷ codes "capacity" ∷ codes "spares"
-    ∷ codes "spaces" ∷ codes "steps" ∷ codes "mode" ∷ []
-
 abbrev pub in_scheme : Scheme → Config → Config
 in_scheme scheme config = record config { scheme = scheme }
 
 -- the whole, in the order of checking
 unfoldable pub run_plan_of : Members → Result RunPlan Failure
 run_plan_of ms = do
-  _ ← known_only run_keys ms
+  _ ← known_only (names_of Run) ms
   config ← config_at ms
-  texts ← texts_at (codes "steps") ms
+  texts ← texts_at keys.Steps ms
   scheme ← mode_at ms
   _ ← checked MAX_FRAMES (in_scheme scheme config)
   _ ← few texts

@@ -1,7 +1,7 @@
 -- The harts, the spaces and the table memory that the keys of a document ask for, and whether they
 -- are within the limits.
 use Rattle.std.specs.Prelude.{ℕ, ℤ, pos, negsuc, ◌^◌, nat_le, codes, List, [], ◌∷◌, length, Option, Some, None, option_and_then, option_map, Result, Ok, Err, if◌then◌else◌}
-use Rattle.toml.specs.Data.{Data, as_str, as_integer, as_array, Members, get_member}
+use Rattle.toml.specs.Data.{Data, as_str, as_integer, as_array, Members}
 use Rattle.std.specs.Str.{bytes_eq}
 use Rattle.pte.specs.declared.scheme.Scheme.{Scheme}
 use Rattle.pte.specs.declared.scheme.Scheme.TheVariants.{Sv39, Sv48}
@@ -14,7 +14,9 @@ use Rattle.spaces.specs.Limits.{is_within_limits}
 use Rattle.steps.specs.Num.{num_of}
 use Rattle.steps.specs.Words.{words_of}
 use Rattle.files.specs.Faults.{Failure, bad_layout, ◌>>=◌}
-use Rattle.files.specs.Keys.{below, each, listed, one_number, one_word, texts_of, value_or}
+use Rattle.files.specs.Keys.{below, each, listed, one_number, one_word, texts_of, value_at}
+use Rattle.files.specs.declared.key_table.Key.{Key}
+use Rattle.files.specs.declared.key_table.Key.TheVariants as keys
 
 -- ---- the values of the keys
 
@@ -26,8 +28,8 @@ small (negsuc n) = None
 abbrev pub whole_of : Data → Option ℕ
 whole_of d = option_and_then small (as_integer d)
 
-abbrev pub whole_at : List ℕ → ℕ → Members → Result ℕ Failure
-whole_at key default ms = value_or key default whole_of (get_member key ms)
+abbrev pub whole_at : Key → ℕ → Members → Result ℕ Failure
+whole_at key default ms = value_at key default whole_of ms
 
 -- the scheme that a word names
 abbrev pub scheme_named : List ℕ → Option Scheme
@@ -42,14 +44,14 @@ mode_of d =
     option_and_then (λ text. option_and_then scheme_named (one_word (words_of text))) (as_str d)
 
 abbrev pub mode_at : Members → Result Scheme Failure
-mode_at ms = value_or (codes "mode") default_config.scheme mode_of (get_member (codes "mode") ms)
+mode_at ms = value_at keys.Mode default_config.scheme mode_of ms
 
 -- the PPN of the first table frame
 abbrev pub base_of : Data → Option ℕ
 base_of d = option_and_then one_number (as_str d)
 
 abbrev pub base_at : Members → Result ℕ Failure
-base_at ms = value_or (codes "base") default_config.base base_of (get_member (codes "base") ms)
+base_at ms = value_at keys.Base default_config.base base_of ms
 
 -- at most as many of them as this
 abbrev pub at_most : {X : Type 0} → ℕ → List X → Option (List X)
@@ -63,8 +65,7 @@ abbrev pub spares_of : Data → Option (List ℕ)
 spares_of d = option_and_then (λ ds. wholes_of (listed ds)) (as_array d)
 
 abbrev pub spares_at : ℕ → Members → Result (List ℕ) Failure
-spares_at harts ms =
-    value_or (codes "spares") (default_spares harts) spares_of (get_member (codes "spares") ms)
+spares_at harts ms = value_at keys.Spares (default_spares harts) spares_of ms
 
 abbrev pub space : ℕ → ℕ → Space
 space home asid = record { home = home; asid = asid }
@@ -87,17 +88,17 @@ abbrev pub spaces_of : Data → Option (List Space)
 spaces_of d = option_and_then few_spaces (texts_of d)
 
 abbrev pub spaces_at : Members → Result (List Space) Failure
-spaces_at ms = value_or (codes "spaces") default_spaces spaces_of (get_member (codes "spaces") ms)
+spaces_at ms = value_at keys.Spaces default_spaces spaces_of ms
 
 -- ---- the configuration, in the order of checking, but for the scheme
 -- (whose key comes after the steps)
 
 unfoldable pub config_at : Members → Result Config Failure
 config_at ms = do
-  harts ← whole_at (codes "harts") default_config.harts ms
-  window ← whole_at (codes "window") default_config.window ms
+  harts ← whole_at keys.Harts default_config.harts ms
+  window ← whole_at keys.Window default_config.window ms
   base ← base_at ms
-  capacity ← whole_at (codes "capacity") default_config.capacity ms
+  capacity ← whole_at keys.Capacity default_config.capacity ms
   spares ← spares_at harts ms
   spaces ← spaces_at ms
   Ok (record {

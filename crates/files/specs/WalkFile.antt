@@ -1,8 +1,8 @@
 -- The scenario that a text for `walk` is, or its first fault.
-use Rattle.std.specs.Prelude.{ℕ, ◌^◌, ◌&&◌, Bool, nat_lt, nat_le, codes, List, [], ◌∷◌, length, Option, Some, None, option_and_then, option_map, Result, Ok, Err, if◌then◌else◌}
+use Rattle.std.specs.Prelude.{ℕ, ◌^◌, ◌&&◌, Bool, nat_lt, nat_le, List, [], ◌∷◌, length, Option, Some, None, option_and_then, option_map, Result, Ok, Err, if◌then◌else◌}
 use Rattle.std.specs.Option.{ok_or}
 use Rattle.std.specs.Str.{is_utf8}
-use Rattle.toml.specs.Data.{Data, as_str, Members, get_member}
+use Rattle.toml.specs.Data.{Data, as_str, Members}
 use Rattle.toml.specs.Parse.{parse_document}
 use Rattle.pte.specs.declared.address.TheConstants.{TABLE_LENGTH}
 use Rattle.pte.specs.declared.scheme.Scheme.{Scheme}
@@ -14,8 +14,11 @@ use Rattle.files.specs.declared.plan.WalkScenario.{WalkScenario}
 use Rattle.steps.specs.declared.step.WalkStep.{WalkStep}
 use Rattle.steps.specs.Num.{num_of}
 use Rattle.steps.specs.Words.{words_of}
-use Rattle.files.specs.Faults.{Failure, not_toml, wrong_key, ◌>>=◌}
-use Rattle.files.specs.Keys.{below, each, known_only, one_number, texts_at, value_or}
+use Rattle.files.specs.Faults.{Failure, not_toml, ◌>>=◌}
+use Rattle.files.specs.KeyTable.{names_of}
+use Rattle.files.specs.declared.key_table.Command.TheVariants.{Walk}
+use Rattle.files.specs.declared.key_table.Key.TheVariants as keys
+use Rattle.files.specs.Keys.{below, each, known_only, one_number, texts_at, value_at, wrong_value}
 use Rattle.files.specs.declared.limits.TheConstants.{MOST_FRAMES}
 use Rattle.files.specs.Memory.{is_listed, word_at, word_in}
 use Rattle.files.specs.Settings.{mode_at}
@@ -32,9 +35,6 @@ abbrev pub plan_view : WalkScenario → WalkPlan
 plan_view s =
     record { scheme = s.scheme; root = s.root; tables = word_at s.tables; steps = s.steps.items }
 
-abbrev pub walk_keys : List (List ℕ)
-walk_keys = codes "root" ∷ codes "frames" ∷ codes "words" ∷ codes "steps" ∷ codes "mode" ∷ []
-
 -- ---- the root and the frames
 
 -- a text of one PPN
@@ -45,7 +45,7 @@ abbrev pub root_of : Data → Option ℕ
 root_of d = option_and_then ppn_of (as_str d)
 
 abbrev pub root_at : Members → Result ℕ Failure
-root_at ms = value_or (codes "root") default_config.base root_of (get_member (codes "root") ms)
+root_at ms = value_at keys.Root default_config.base root_of ms
 
 abbrev pub ppns_of : List (List ℕ) → Option (List ℕ)
 ppns_of texts = if nat_le (length texts) MOST_FRAMES then each ppn_of texts else None
@@ -53,8 +53,8 @@ ppns_of texts = if nat_le (length texts) MOST_FRAMES then each ppn_of texts else
 -- the set of the frames
 abbrev pub frames_at : Members → Result (ℕ → Bool) Failure
 frames_at ms =
-    texts_at (codes "frames") ms >>= λ texts. ok_or (option_map is_listed (ppns_of texts))
-    (wrong_key (codes "frames"))
+    texts_at keys.Frames ms >>= λ texts. ok_or (option_map is_listed (ppns_of texts))
+    (wrong_value keys.Frames)
 
 -- ---- table words
 
@@ -77,8 +77,8 @@ word_of is_frame text = word_of_words is_frame (words_of text)
 
 abbrev pub words_at : (ℕ → Bool) → Members → Result (List TableWord) Failure
 words_at is_frame ms =
-    texts_at (codes "words") ms >>= λ texts. ok_or (each (word_of is_frame) texts)
-    (wrong_key (codes "words"))
+    texts_at keys.Words ms >>= λ texts. ok_or (each (word_of is_frame) texts)
+    (wrong_value keys.Words)
 
 abbrev pub tables_at : (ℕ → Bool) → Members → Result Tables Failure
 tables_at is_frame ms = words_at is_frame ms >>= λ words. Ok (word_in is_frame words)
@@ -87,11 +87,11 @@ tables_at is_frame ms = words_at is_frame ms >>= λ words. Ok (word_in is_frame 
 
 unfoldable pub walk_plan_of : Members → Result WalkPlan Failure
 walk_plan_of ms = do
-  _ ← known_only walk_keys ms
+  _ ← known_only (names_of Walk) ms
   root ← root_at ms
   is_frame ← frames_at ms
   tables ← tables_at is_frame ms
-  texts ← texts_at (codes "steps") ms
+  texts ← texts_at keys.Steps ms
   scheme ← mode_at ms
   _ ← few texts
   steps ← walk_steps_in texts

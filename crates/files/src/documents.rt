@@ -1,18 +1,18 @@
 //! What the keys of a document hold.
 ghost use Rattle.std.specs.Prelude.{◌≡◌, IfErr, IfOk, map, option_map, option_and_then, string_bytes, Ok, Err};
-ghost use Rattle.std.specs.List.{list_any};
 ghost use Rattle.std.specs.Option.{ok_or};
-ghost use Rattle.std.specs.Str.{bytes_eq};
 ghost use Rattle.toml.specs.Data.{get_member, as_str};
 ghost use Rattle.toml.specs.Errors.{IsMemory};
 ghost use Rattle.toml.specs.Parse.{parse_document};
 ghost use Rattle.toml.specs.View.{table_view, view};
 ghost use Rattle.files.specs.Faults.{Fails, Gives, not_toml, wrong_key};
 ghost use Rattle.files.specs.declared.fault.Fault.TheVariants.{NoMemory, NotToml};
-ghost use Rattle.files.specs.Keys.{each, key_texts, known_only, least_unknown, one_number, one_word, text_views, texts_at, texts_of};
+ghost use Rattle.files.specs.KeyTable.{names_of};
+ghost use Rattle.files.specs.Keys.{each, known_only, least_unknown, member_of, one_number, one_word, text_views, texts_at, texts_of, wrong_value};
 ghost use Rattle.steps.specs.Num.{num_of};
 
 use crate::fault::Fault;
+use crate::key_table::{Command, Key};
 use std::alloc::{AllocError, Global};
 use steps::{num, words};
 use toml::{Table, Value};
@@ -38,46 +38,54 @@ fn document_of(read: Result<Table, toml::de::Error>) -> Result<Table, Fault>
     }
 }
 
-fn is_known(known: &[&str], key: &str) -> bool
-    ensures { result ≡ list_any (λ text. bytes_eq key.now text.now) known.now }
-{
-    known.iter().any(|text| key == *text)
-}
-
-fn unknown_key<'a>(table: &'a Table, known: &[&str]) -> Option<&'a String>
+fn unknown_key(table: &Table, command: Command) -> Option<&String>
     ensures { option_map (λ key. string_bytes key.now) result
-        ≡ least_unknown (key_texts known.now) (table_view table.now) }
+        ≡ least_unknown (names_of command) (table_view table.now) }
 {
-    table.keys().find(|key| !is_known(known, key.as_str()))
+    table.keys().find(|key| !command.knows(key.as_str()))
 }
 
-/// The fault of a key, or `NoMemory` if there is no memory for its name.
-pub fn key_fault(alloc: Global, key: &str) -> Fault
-    ensures { Fails {Y = Unit {0}} result (Err (wrong_key key.now)) }
+/// The fault of a key of this name, or `NoMemory` if there is no memory for the name.
+fn fault_of_name(alloc: Global, name: &str) -> Fault
+    ensures { Fails {Y = Unit {0}} result (Err (wrong_key name.now)) }
 {
-    match String::from_str(alloc, key) {
+    match String::from_str(alloc, name) {
         Ok(name) => Fault::Key(name),
         Err(_) => Fault::NoMemory,
     }
 }
 
-/// Refuses with `Key` a key that is not one of the known: the least by bytes.
-pub fn check_keys(alloc: Global, table: &Table, known: &[&str]) -> Result<(), Fault>
-    ensures { Gives (λ done. done) result
-        (known_only (key_texts known.now) (table_view table.now)) }
+/// The fault of a key whose value is wrong, or `NoMemory` if there is no memory for its name.
+pub fn key_fault(alloc: Global, key: Key) -> Fault
+    ensures { Fails {Y = Unit {0}} result (Err (wrong_value key)) }
 {
-    match unknown_key(table, known) {
-        Some(key) => Err(key_fault(alloc, key.as_str())),
+    fault_of_name(alloc, key.name())
+}
+
+/// Refuses with `Key` a key that the command does not know: the least by bytes.
+pub fn check_keys(alloc: Global, table: &Table, command: Command) -> Result<(), Fault>
+    ensures { Gives (λ done. done) result
+        (known_only (names_of command) (table_view table.now)) }
+{
+    match unknown_key(table, command) {
+        Some(key) => Err(fault_of_name(alloc, key.as_str())),
         None => Ok(()),
     }
 }
 
-/// The value at a key.
-pub fn value_at<'a>(table: &'a Table, key: &str) -> Option<&'a Value>
+fn value_of_name<'a>(table: &'a Table, name: &str) -> Option<&'a Value>
     ensures { option_map (λ value. view value.now) result
-        ≡ get_member key.now (table_view table.now) }
+        ≡ get_member name.now (table_view table.now) }
 {
-    table.get(key)
+    table.get(name)
+}
+
+/// The value at a key.
+pub fn value_at(table: &Table, key: Key) -> Option<&Value>
+    ensures { option_map (λ value. view value.now) result
+        ≡ member_of key (table_view table.now) }
+{
+    value_of_name(table, key.name())
 }
 
 /// The number that a text of one word writes. `AllocError`: there was not enough memory.
@@ -123,8 +131,8 @@ pub fn texts_in<'a>(alloc: Global, value: &'a Value) -> Result<Option<Vec<&'a st
 }
 
 /// The texts at a key, none where it is absent. `Key` if its value is no array of texts.
-pub fn texts_of_key<'a>(alloc: Global, table: &'a Table, key: &str) -> Result<Vec<&'a str>, Fault>
-    ensures { Gives text_views result (texts_at key.now (table_view table.now)) }
+pub fn texts_of_key<'a>(alloc: Global, table: &'a Table, key: Key) -> Result<Vec<&'a str>, Fault>
+    ensures { Gives text_views result (texts_at key (table_view table.now)) }
 {
     match value_at(table, key) {
         Some(value) => match texts_in(alloc, value)? {

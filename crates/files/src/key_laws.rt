@@ -1,8 +1,17 @@
 //! Laws of the keys: each call makes no step, and its clauses hold of the definitions alone.
 ghost use Rattle.pte.specs.declared.scheme.Scheme.TheVariants.{Sv39, Sv48};
-ghost use Rattle.std.specs.Prelude.{◌≡◌, ◌↔◌, List, [], ℕ, pos, Some, None, Ok, codes, true, false, IsTrue};
+ghost use Rattle.std.specs.Prelude.{◌≡◌, ◌↔◌, ◌^◌, if◌then◌else◌, List, [], ℕ, pos, Some, None, Ok, codes, true, false, IsTrue};
+ghost use Rattle.std.specs.List.{filter};
+ghost use Rattle.pte.specs.declared.TheConstants.{MAX_CAPACITY, MAX_HARTS};
+ghost use Rattle.pte.specs.declared.entry.TheConstants.{PPN_BITS};
+ghost use Rattle.spaces.specs.Limits.{is_from_one};
+ghost use Rattle.spaces.specs.declared.configuration.TheConstants.{MAX_WINDOW};
 ghost use Rattle.toml.specs.Data.{Members, boolean, get_member, integer, string};
-ghost use Rattle.files.specs.Keys.{HasKey, is_known, IsLeastUnknown, least_unknown};
+ghost use Rattle.files.specs.declared.key_table.Command.{Command};
+ghost use Rattle.files.specs.declared.key_table.Key.TheVariants.{Capacity, Harts, Root, Turns, Window};
+ghost use Rattle.files.specs.KeyTable.{is_own, is_within, keys_of, kind_of, own_keys};
+ghost use Rattle.files.specs.LiveFile.{positive};
+ghost use Rattle.files.specs.Keys.{below, HasKey, is_known, IsLeastUnknown, least_unknown};
 ghost use Rattle.files.specs.Settings.{mode_at, mode_of};
 
 /// The unknown key that is reported is the least by bytes, and none is reported only where all keys
@@ -12,6 +21,23 @@ pub fn least_unknown_key()
         → least_unknown known ms ≡ Some key → IsLeastUnknown known ms key }
     ensures none { (known : List (List ℕ)) (ms : Members) → least_unknown known ms ≡ None
         → (key : List ℕ) → is_known known key ≡ false → ¬ HasKey key ms }
+{}
+
+/// The keys that are listed as those of one command are the ones that no other command knows.
+pub fn own_keys_are_of_one_command()
+    ensures { (command : Command) → own_keys command ≡ filter (is_own command) (keys_of command) }
+{}
+
+/// The limits of the table are the ones that the layout is checked by, and `turns` and `root` are
+/// read by.
+pub fn limits_are_those_of_the_table()
+    ensures harts { (n : ℕ) → is_from_one MAX_HARTS n ≡ is_within (kind_of Harts) n }
+    ensures window { (n : ℕ) → is_from_one MAX_WINDOW n ≡ is_within (kind_of Window) n }
+    ensures capacity { (n : ℕ) → is_from_one MAX_CAPACITY n ≡ is_within (kind_of Capacity) n }
+    ensures turns { (n : ℕ) → positive (pos n) ≡ (if is_within (kind_of Turns) n
+        then Some n else None) }
+    ensures root { (n : ℕ) → below (2 ^ PPN_BITS) n ≡ (if is_within (kind_of Root) n
+        then Some n else None) }
 {}
 
 /// A file without the key `mode` is one of Sv39.

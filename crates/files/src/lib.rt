@@ -12,7 +12,7 @@ mod fault;
 mod format_laws;
 mod frames;
 mod key_laws;
-mod known_keys;
+mod key_table;
 mod limits;
 mod live_file;
 mod plan;
@@ -24,10 +24,13 @@ pub use documents::{number, value_at};
 pub use fault::Fault;
 pub use format_laws::{first_wrong_step, worked_turns};
 pub use frames::TableFrames;
-pub use key_laws::{least_unknown_key, mode_is_sv39_by_default, worked_modes};
-pub use known_keys::{LIVE_KEYS, RUN_KEYS, WALK_KEYS};
+pub use key_laws::{
+    least_unknown_key, limits_are_those_of_the_table, mode_is_sv39_by_default,
+    own_keys_are_of_one_command, worked_modes,
+};
+pub use key_table::{Command, Key, Kind};
 pub use limits::{MOST_FRAMES, MOST_STEPS};
-pub use live_file::{DEFAULT_TURNS, live_scenario_in, read_live};
+pub use live_file::{live_scenario_in, read_live};
 pub use plan::{LiveScenario, RunScenario, WalkScenario};
 pub use run_file::{read_run, run_scenario_in};
 pub use walk_file::{read_walk, walk_scenario_in};

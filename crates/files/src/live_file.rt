@@ -8,7 +8,7 @@ ghost use Rattle.files.specs.LiveFile.{few_scripts, live_plan_of, live_scenario_
 
 use crate::documents::{check_keys, document, key_fault, texts_in, texts_of_key, value_at};
 use crate::fault::Fault;
-use crate::known_keys::LIVE_KEYS;
+use crate::key_table::{Command, DEFAULT_TURNS, Key};
 use crate::limits::MOST_STEPS;
 use crate::plan::LiveScenario;
 use crate::settings::{check_live_layout, config, mode};
@@ -17,9 +17,6 @@ use pte::{MAX_HARTS, Scheme};
 use std::alloc::{AllocError, Global};
 use steps::{live_step_among, setup_step_among};
 use toml::{Table, Value};
-
-/// The turns of a wait where no key says how many.
-pub const DEFAULT_TURNS: u32 = 1_000_000;
 
 /// A whole number from 1 to 2^32 - 1.
 fn positive(value: &Value) -> Option<u32>
@@ -33,12 +30,12 @@ fn positive(value: &Value) -> Option<u32>
 fn turns(alloc: Global, table: &Table) -> Result<u32, Fault>
     ensures { Gives (λ n. n) result (turns_at (table_view table.now)) }
 {
-    let Some(value) = value_at(table, "turns") else {
+    let Some(value) = value_at(table, Key::Turns) else {
         return Ok(DEFAULT_TURNS);
     };
     match positive(value) {
         Some(turns) => Ok(turns),
-        None => Err(key_fault(alloc, "turns")),
+        None => Err(key_fault(alloc, Key::Turns)),
     }
 }
 
@@ -98,10 +95,10 @@ fn scripts_of_key<'a>(
     ensures read { Gives script_views result (scripts_at harts (table_view table.now)) }
     ensures few { IfOk result (λ scripts. length scripts.items ≤ harts) }
 {
-    match value_at(table, "scripts") {
+    match value_at(table, Key::Scripts) {
         Some(value) => match scripts_in(alloc, value, harts)? {
             Some(scripts) => Ok(scripts),
-            None => Err(key_fault(alloc, "scripts")),
+            None => Err(key_fault(alloc, Key::Scripts)),
         },
         None => Ok(Vec::new(alloc)),
     }
@@ -198,9 +195,9 @@ fn scripts_steps(
 pub fn live_scenario_in(alloc: Global, table: &Table) -> Result<LiveScenario, Fault>
     ensures { Gives live_view result (live_plan_of (table_view table.now)) }
 {
-    check_keys(alloc, table, &LIVE_KEYS)?;
+    check_keys(alloc, table, Command::Live)?;
     let mut config = config(alloc, table)?;
-    let setup = texts_of_key(alloc, table, "setup")?;
+    let setup = texts_of_key(alloc, table, Key::Setup)?;
     let scripts = scripts_of_key(alloc, table, config.harts)?;
     let turns = turns(alloc, table)?;
     config.scheme = mode(alloc, table)?;

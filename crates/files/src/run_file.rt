@@ -7,7 +7,7 @@ ghost use Rattle.files.specs.RunFile.{run_plan_of, run_scenario_of, run_view};
 
 use crate::documents::{check_keys, document, texts_of_key};
 use crate::fault::Fault;
-use crate::known_keys::RUN_KEYS;
+use crate::key_table::{Command, Key};
 use crate::limits::MOST_STEPS;
 use crate::plan::RunScenario;
 use crate::settings::{check_layout, config, mode};
@@ -38,9 +38,9 @@ fn events(alloc: Global, scheme: Scheme, harts: u8, texts: &[&str]) -> Result<Ve
 pub fn run_scenario_in(alloc: Global, table: &Table) -> Result<RunScenario, Fault>
     ensures { Gives run_view result (run_plan_of (table_view table.now)) }
 {
-    check_keys(alloc, table, &RUN_KEYS)?;
+    check_keys(alloc, table, Command::Run)?;
     let mut config = config(alloc, table)?;
-    let texts = texts_of_key(alloc, table, "steps")?;
+    let texts = texts_of_key(alloc, table, Key::Steps)?;
     config.scheme = mode(alloc, table)?;
     check_layout(&config)?;
     if texts.len() > MOST_STEPS {

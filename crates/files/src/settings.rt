@@ -10,6 +10,7 @@ ghost use Rattle.files.specs.Settings.{base_at, checked, config_at, few_spaces, 
 
 use crate::documents::{key_fault, number, texts_in, value_at};
 use crate::fault::Fault;
+use crate::key_table::Key;
 use arrayvec::ArrayVec;
 use pte::Scheme;
 use spaces::{Config, MAX_HARTS, MAX_SPACES, Space};
@@ -25,8 +26,8 @@ fn whole(value: &Value) -> Option<u16>
     u16::try_from(n).ok()
 }
 
-fn whole_at(alloc: Global, table: &Table, key: &str, default: u16) -> Result<u16, Fault>
-    ensures { Gives (λ n. n) result (whole_at key.now default (table_view table.now)) }
+fn whole_at(alloc: Global, table: &Table, key: Key, default: u16) -> Result<u16, Fault>
+    ensures { Gives (λ n. n) result (whole_at key default (table_view table.now)) }
 {
     let Some(value) = value_at(table, key) else {
         return Ok(default);
@@ -40,15 +41,15 @@ fn whole_at(alloc: Global, table: &Table, key: &str, default: u16) -> Result<u16
 fn base(alloc: Global, table: &Table) -> Result<u64, Fault>
     ensures { Gives (λ n. n) result (base_at (table_view table.now)) }
 {
-    let Some(value) = value_at(table, "base") else {
+    let Some(value) = value_at(table, Key::Base) else {
         return Ok(Config::default().base);
     };
     let Some(text) = value.as_str() else {
-        return Err(key_fault(alloc, "base"));
+        return Err(key_fault(alloc, Key::Base));
     };
     match number(alloc, text)? {
         Some(base) => Ok(base),
-        None => Err(key_fault(alloc, "base")),
+        None => Err(key_fault(alloc, Key::Base)),
     }
 }
 
@@ -87,15 +88,15 @@ fn scheme(alloc: Global, text: &str) -> Result<Option<Scheme>, AllocError>
 pub fn mode(alloc: Global, table: &Table) -> Result<Scheme, Fault>
     ensures { Gives (λ scheme. scheme) result (mode_at (table_view table.now)) }
 {
-    let Some(value) = value_at(table, "mode") else {
+    let Some(value) = value_at(table, Key::Mode) else {
         return Ok(Config::default().scheme);
     };
     let Some(text) = value.as_str() else {
-        return Err(key_fault(alloc, "mode"));
+        return Err(key_fault(alloc, Key::Mode));
     };
     match scheme(alloc, text)? {
         Some(scheme) => Ok(scheme),
-        None => Err(key_fault(alloc, "mode")),
+        None => Err(key_fault(alloc, Key::Mode)),
     }
 }
 
@@ -130,12 +131,12 @@ fn spares_in(value: &Value) -> Option<ArrayVec<u16, MAX_HARTS>>
 fn spares(alloc: Global, table: &Table, harts: u16) -> Result<ArrayVec<u16, MAX_HARTS>, Fault>
     ensures { Gives (λ v. v.items) result (spares_at harts (table_view table.now)) }
 {
-    let Some(value) = value_at(table, "spares") else {
+    let Some(value) = value_at(table, Key::Spares) else {
         return Ok(Config::with_harts(harts).spares);
     };
     match spares_in(value) {
         Some(spares) => Ok(spares),
-        None => Err(key_fault(alloc, "spares")),
+        None => Err(key_fault(alloc, Key::Spares)),
     }
 }
 
@@ -203,12 +204,12 @@ fn spaces_in(
 fn spaces(alloc: Global, table: &Table) -> Result<ArrayVec<Space, MAX_SPACES>, Fault>
     ensures { Gives (λ v. v.items) result (spaces_at (table_view table.now)) }
 {
-    let Some(value) = value_at(table, "spaces") else {
+    let Some(value) = value_at(table, Key::Spaces) else {
         return Ok(Config::default().spaces);
     };
     match spaces_in(alloc, value)? {
         Some(spaces) => Ok(spaces),
-        None => Err(key_fault(alloc, "spaces")),
+        None => Err(key_fault(alloc, Key::Spaces)),
     }
 }
 
@@ -220,10 +221,10 @@ pub fn config(alloc: Global, table: &Table) -> Result<Config, Fault>
     ensures { Gives (λ config. config) result (config_at (table_view table.now)) }
 {
     let default = Config::default();
-    let harts = whole_at(alloc, table, "harts", default.harts)?;
-    let window = whole_at(alloc, table, "window", default.window)?;
+    let harts = whole_at(alloc, table, Key::Harts, default.harts)?;
+    let window = whole_at(alloc, table, Key::Window, default.window)?;
     let base = base(alloc, table)?;
-    let capacity = whole_at(alloc, table, "capacity", default.capacity)?;
+    let capacity = whole_at(alloc, table, Key::Capacity, default.capacity)?;
     let spares = spares(alloc, table, harts)?;
     let spaces = spaces(alloc, table)?;
     Ok(Config {

@@ -11,7 +11,7 @@ ghost use Rattle.files.specs.WalkFile.{frames_at, plan_view, ppn_of, ppns_of, ro
 use crate::documents::{check_keys, document, key_fault, number, texts_of_key, value_at};
 use crate::fault::Fault;
 use crate::frames::{Frames, TableFrames, TableWord};
-use crate::known_keys::WALK_KEYS;
+use crate::key_table::{Command, Key};
 use crate::limits::{MOST_FRAMES, MOST_STEPS};
 use crate::plan::WalkScenario;
 use crate::settings::mode;
@@ -33,15 +33,15 @@ fn root(alloc: Global, table: &Table) -> Result<u64, Fault>
     ensures value { Gives (λ root. root) result (root_at (table_view table.now)) }
     ensures in_range { IfOk result (λ root. root < 2 ^ PPN_BITS) }
 {
-    let Some(value) = value_at(table, "root") else {
+    let Some(value) = value_at(table, Key::Root) else {
         return Ok(Config::default().base);
     };
     let Some(text) = value.as_str() else {
-        return Err(key_fault(alloc, "root"));
+        return Err(key_fault(alloc, Key::Root));
     };
     match ppn(alloc, text)? {
         Some(root) => Ok(root),
-        None => Err(key_fault(alloc, "root")),
+        None => Err(key_fault(alloc, Key::Root)),
     }
 }
 
@@ -74,10 +74,10 @@ fn few_ppns(alloc: Global, texts: &[&str]) -> Result<Option<Vec<u64>>, AllocErro
 fn frames(alloc: Global, table: &Table) -> Result<Frames, Fault>
     ensures { Gives is_frame_of result (frames_at (table_view table.now)) }
 {
-    let texts = texts_of_key(alloc, table, "frames")?;
+    let texts = texts_of_key(alloc, table, Key::Frames)?;
     match few_ppns(alloc, texts.as_slice())? {
         Some(ppns) => Ok(Frames::new(ppns)?),
-        None => Err(key_fault(alloc, "frames")),
+        None => Err(key_fault(alloc, Key::Frames)),
     }
 }
 
@@ -125,10 +125,10 @@ fn words_of_key(alloc: Global, table: &Table, frames: &Frames) -> Result<Vec<Tab
     ensures { Gives (λ v. v.items) result
         (words_at (is_frame_of frames.now) (table_view table.now)) }
 {
-    let texts = texts_of_key(alloc, table, "words")?;
+    let texts = texts_of_key(alloc, table, Key::Words)?;
     match table_words(alloc, frames, texts.as_slice())? {
         Some(words) => Ok(words),
-        None => Err(key_fault(alloc, "words")),
+        None => Err(key_fault(alloc, Key::Words)),
     }
 }
 
@@ -160,11 +160,11 @@ fn steps(alloc: Global, texts: &[&str]) -> Result<Vec<WalkStep>, Fault>
 pub fn walk_scenario_in(alloc: Global, table: &Table) -> Result<WalkScenario, Fault>
     ensures { Gives plan_view result (walk_plan_of (table_view table.now)) }
 {
-    check_keys(alloc, table, &WALK_KEYS)?;
+    check_keys(alloc, table, Command::Walk)?;
     let root = root(alloc, table)?;
     let frames = frames(alloc, table)?;
     let tables = tables(alloc, table, frames)?;
-    let texts = texts_of_key(alloc, table, "steps")?;
+    let texts = texts_of_key(alloc, table, Key::Steps)?;
     let scheme = mode(alloc, table)?;
     if texts.len() > MOST_STEPS {
         return Err(Fault::TooMany);

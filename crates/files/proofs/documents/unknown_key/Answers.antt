@@ -2,13 +2,13 @@ use Rattle.std.proofs.Common.{◌∙◌, ap, sym, not, option_map, string_bytes,
 use borrow.Author.Tests.{tests}
 use Rattle.std.proofs.lemmas.Iterator.Consumers.{YieldsList-from_rest}
 use Rattle.std.proofs.lemmas.Iterator.Search.{find_from_yields_List}
-use Rattle.files.specs.Keys.{key_texts}
-use Rattle.files.proofs.KeyLemmas.{is_known_key, known_texts, least_unknown-find, option_map-now}
+use Rattle.files.specs.KeyTable.{names_of}
+use Rattle.files.proofs.KeyLemmas.{is_known_key, least_unknown-find, option_map-now}
 use Rattle.files.proofs.documents.unknown_key.Goals as goal
 
 pub returns : goal.returns
 returns c =
     option_map-now c.find.result
     ∙ ap (option_map string_bytes)
-    (find_from_yields_List (λ key. not (is_known_key (key_texts c.args.known.now) key)) _ _ c.find.result c.find.ensures.ran (YieldsList-from_rest _ c.keys.ensures.rest) (λ x b q k. search (rules, tests, known_texts c.args.known.now (string_bytes x.now))))
-    ∙ sym (least_unknown-find (key_texts c.args.known.now) c.args.table.now.entries c.keys.ensures.ordered)
+    (find_from_yields_List (λ key. not (is_known_key (names_of c.args.command) key)) _ _ c.find.result c.find.ensures.ran (YieldsList-from_rest _ c.keys.ensures.rest) (λ x b q k. search (rules, tests)))
+    ∙ sym (least_unknown-find (names_of c.args.command) c.args.table.now.entries c.keys.ensures.ordered)
