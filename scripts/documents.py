@@ -184,7 +184,7 @@ def key_lists():
     """The keys of each command in the code's table, by their names and in its order."""
     names = dict(re.findall(r'Key::(\w+) => "(\w+)"', text_of(KEY_TABLE)))
     for command in ("run", "live", "walk"):
-        keys = re.search(rf"const {command.upper()}_KEYS: \[Key; \d+\] = \[(.*?)\];", text_of(KEY_TABLE), re.S)[1]
+        keys = re.search(rf"const {command.upper()}_KEYS: \[Key; \w+\] = \[(.*?)\];", text_of(KEY_TABLE), re.S)[1]
         yield [names[key] for key in re.findall(r"Key::(\w+)", keys)]
 
 

@@ -1,3 +1,4 @@
+pub mod FewKeys
 pub mod NearLemmas
 pub mod FaultLemmas
 pub mod KeyLines

@@ -1,9 +1,8 @@
 //! How the steps of each command are written.
-ghost use Rattle.std.specs.Prelude.{◌≤◌, length};
 
 use crate::commands::Command;
 use arrayvec::ArrayVec;
-use steps::{Field, Row, STEP_NAMES, StepName, WALK_FIELDS};
+use steps::{Field, NAMES, Row, STEP_NAMES, StepName, WALK_FIELDS};
 
 /// How a step is written.
 #[derive(Clone, Copy)]
@@ -69,10 +68,10 @@ fn fields_of(command: Command, row: Row) -> Option<&'static [Field]> {
 }
 
 /// The names of the steps of `live`, or else of `run`.
-pub fn names(command: Command) -> ArrayVec<&'static str, 22> {
+pub fn names(command: Command) -> ArrayVec<&'static str, NAMES> {
     let mut names = ArrayVec::new();
-    for (index, name) in STEP_NAMES.iter().enumerate() {
-        let row = name.row();
+    for index in 0..NAMES {
+        let row = STEP_NAMES[index].row();
         if fields_of(command, row).is_some() {
             names.push(row.word);
         }

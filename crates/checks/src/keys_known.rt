@@ -1,38 +1,29 @@
 //! Keys that the command does not know.
-ghost use Rattle.std.specs.Prelude.{◌≡◌, map, option_map};
-ghost use Rattle.files.specs.KeyTable.{name_of};
-ghost use Rattle.checks.specs.Near.{first_near, nearest};
+ghost use Rattle.std.specs.Prelude.{◌≤◌, length};
+ghost use Rattle.files.specs.declared.key_table.TheConstants.{MOST_KEYS};
 ghost use Rattle.checks.specs.Told.{IsStillTrue};
 
-use crate::near::is_near;
+use crate::near::nearest;
 use crate::report::{Piece, Report};
 use crate::values::Document;
-use files::{Command, Key};
+use arrayvec::ArrayVec;
+use files::{Command, Key, MOST_KEYS};
 
-/// The first of the keys whose name is so near to a word.
-fn first_near(edits: u8, word: &str, keys: &[Key]) -> Option<Key>
-    ensures { option_map name_of result ≡ first_near edits word.now (map name_of keys.now) }
+/// The names of keys.
+fn names(keys: &[Key]) -> ArrayVec<&'static str, MOST_KEYS>
+    requires { length keys.now ≤ MOST_KEYS }
 {
-    match keys {
-        [] => None,
-        [key, rest @ ..] => {
-            if is_near(edits, word.as_bytes(), key.name().as_bytes()) {
-                Some(*key)
-            } else {
-                first_near(edits, word, rest)
-            }
-        }
+    let mut names = ArrayVec::new();
+    for index in 0..keys.len() {
+        names.push(keys[index].name());
     }
+    names
 }
 
-/// The key that a word is meant to be perhaps.
-fn nearest(word: &str, keys: &[Key]) -> Option<Key>
-    ensures { option_map name_of result ≡ nearest word.now (map name_of keys.now) }
-{
-    match first_near(1, word, keys) {
-        Some(key) => Some(key),
-        None => first_near(2, word, keys),
-    }
+/// The name of a key of the command that is meant perhaps.
+#[tactic(auto, using(crate::proofs::FewKeys::few_keys))]
+fn nearest_of(command: Command, key: &str) -> Option<&'static str> {
+    nearest(key, names(command.keys()).as_slice())
 }
 
 /// The first other command that knows the key.
@@ -49,9 +40,9 @@ fn other_that_knows(key: &str) -> Option<Command> {
 }
 
 /// The key that is meant perhaps, and a command that knows it.
-fn nearest_of_others(key: &str) -> Option<(Key, Command)> {
+fn nearest_of_others(key: &str) -> Option<(&'static str, Command)> {
     for command in [Command::Live, Command::Walk, Command::Run] {
-        if let Some(meant) = nearest(key, command.keys()) {
+        if let Some(meant) = nearest_of(command, key) {
             return Some((meant, command));
         }
     }
@@ -88,18 +79,14 @@ fn tell_unknown_key(report: &mut Report, document: &Document<'_>, command: Comma
         return;
     }
     let (none, perhaps) = (Piece::Text("no key of "), Piece::Text("; perhaps "));
-    if let Some(meant) = nearest(key, command.keys()) {
-        document.tell(
-            report,
-            key,
-            &[none, this, perhaps, Piece::Text(meant.name())],
-        );
+    if let Some(meant) = nearest_of(command, key) {
+        document.tell(report, key, &[none, this, perhaps, Piece::Text(meant)]);
         return;
     }
     match nearest_of_others(key) {
         Some((meant, other)) => {
             let (of, other) = (Piece::Text(" of "), Piece::Text(other.name()));
-            let what = [none, this, perhaps, Piece::Text(meant.name()), of, other];
+            let what = [none, this, perhaps, Piece::Text(meant), of, other];
             document.tell(report, key, &what);
         }
         None => document.tell(report, key, &[none, this]),

@@ -21,5 +21,5 @@ mod values;
 
 pub use checked::{Checked, check_text};
 pub use commands::{Command, command_of};
-pub use laws::near_words_are_edited_ones;
-pub use near::{is_near, nearest};
+pub use laws::{near_words_are_edited_ones, worked_swaps};
+pub use near::{is_near, is_swap, nearest};

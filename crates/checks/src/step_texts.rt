@@ -226,7 +226,8 @@ impl Reader {
     /// The first hart of a word that does not exist.
     fn absent_in(&self, field: Field, word: &[u8]) -> Option<u64> {
         match field {
-            Field::Hart | Field::From | Field::To => num(word).filter(|hart| *hart >= u64::from(self.harts)),
+            Field::Hart | Field::From | Field::To => num(word).filter(|hart| *hart
+                >= u64::from(self.harts)),
             Field::Named => absent_of(word, self.harts),
             _ => None,
         }
@@ -303,8 +304,8 @@ fn wrong_base(scheme: Scheme, word: &[u8]) -> &'static str {
         "the address is no multiple of 512G"
     } else {
         match scheme {
-            Scheme::Sv39 => "the address is not canonical: in sv39 its bits 63 to 38 are alike",
-            Scheme::Sv48 => "the address is not canonical: in sv48 its bits 63 to 47 are alike",
+            Scheme::Sv39 => "the address is not canonical: in sv39 its bits 63 to 38 must be equal",
+            Scheme::Sv48 => "the address is not canonical: in sv48 its bits 63 to 47 must be equal",
         }
     }
 }

@@ -54,6 +54,9 @@ pub enum Kind {
 /// The turns of a wait where no key says how many.
 pub const DEFAULT_TURNS: u32 = 1_000_000;
 
+/// The most keys that a command knows.
+pub const MOST_KEYS: usize = 10;
+
 /// The keys of the files for `walk`, in the order in which they are read.
 const WALK_KEYS: [Key; 5] = [Key::Root, Key::Frames, Key::Words, Key::Steps, Key::Mode];
 
@@ -70,7 +73,7 @@ const RUN_KEYS: [Key; 8] = [
 ];
 
 /// The keys of the files for `live`.
-const LIVE_KEYS: [Key; 10] = [
+const LIVE_KEYS: [Key; MOST_KEYS] = [
     Key::Harts,
     Key::Window,
     Key::Base,

@@ -28,7 +28,7 @@ pub use key_laws::{
     least_unknown_key, limits_are_those_of_the_table, mode_is_sv39_by_default,
     own_keys_are_of_one_command, worked_modes,
 };
-pub use key_table::{Command, Key, Kind};
+pub use key_table::{Command, Key, Kind, MOST_KEYS};
 pub use limits::{MOST_FRAMES, MOST_STEPS};
 pub use live_file::{live_scenario_in, read_live};
 pub use plan::{LiveScenario, RunScenario, WalkScenario};

@@ -30,7 +30,7 @@ pub use numbers::num;
 pub use parts::Parts;
 pub use run::{run_step, run_step_among};
 pub use step::{WalkStep, walk_step};
-pub use table::{Field, Row, STEP_NAMES, StepName, WALK_FIELDS};
+pub use table::{Field, NAMES, Row, STEP_NAMES, StepName, WALK_FIELDS};
 pub use text::{next_word, words};
 pub use told::step_for;
 pub use worked_rows::{

@@ -73,8 +73,11 @@ pub enum StepName {
     Create,
 }
 
+/// How many names there are.
+pub const NAMES: usize = 22;
+
 /// All names, in the order of the table.
-pub const STEP_NAMES: [StepName; 22] = [
+pub const STEP_NAMES: [StepName; NAMES] = [
     StepName::Begin,
     StepName::Translate,
     StepName::Load,
