@@ -101,6 +101,36 @@ says 'the version' 0 --version ''
 judge 'the version names the toolchain' one "$(tail -n 1 "$own/out")"
 judge 'nothing was built so far' 0 "$(builds)"
 
+# On a terminal a second line helps, and nowhere else
+on_terminal() { script -qec "'$svsim' $1" /dev/null </dev/null 2>&1 | tr -d '\r' | tail -n 1; }
+helps() { judge "$1 on a terminal" "svsim: $3" "$(on_terminal "$2")"; }
+helps 'a slip of run' "rnu $own/file.toml" 'perhaps svsim run; svsim help lists the commands'
+helps 'a slip of help' hlep 'perhaps svsim help; svsim help lists the commands'
+helps 'no command at all' "xyzzyq $own/file.toml" 'svsim help lists the commands'
+helps 'a command without a file' run 'svsim help lists the commands'
+helps 'no file' "run $own/none" 'no such file'
+helps 'a folder' "run $own" 'it is a folder'
+echo 3 >"$own/status"
+echo 'root = "0x80000"' >"$own/walk.toml"
+echo 'scripts = [[]]' >"$own/live.toml"
+echo 'watch 1 2 sv39' >"$own/run.trace"
+helps 'a fault' "run $own/file.toml" "svsim check $own/file.toml lists all faults"
+helps 'a fault of draw' "draw $own/file.toml" "svsim check $own/file.toml lists all faults"
+helps 'a fault of walk' "walk $own/walk.toml" "svsim check $own/walk.toml lists all faults"
+helps 'a file of walk' "stale $own/walk.toml" 'a file for walk: use walk'
+helps 'a file of live' "draw $own/live.toml" 'a file for live: use live'
+helps 'a file of run' "walk $own/file.toml" 'a file for run: use run, stale, show or draw'
+helps 'a trace' "run $own/run.trace" 'a trace: use watch'
+helps 'a file that is no trace' "watch $own/file.toml" 'a file for run: use run, stale, show or draw'
+judge 'a trace with a fault' 'line of watch' "$(on_terminal "watch $own/run.trace")"
+judge 'a fault that check told' 'line of check' "$(on_terminal "check $own/file.toml")"
+"$svsim" run "$own/file.toml" >/dev/null 2>"$own/err"
+judge 'a fault where nobody looks' 0 "$(grep -c 'lists all' "$own/err")"
+echo 0 >"$own/status"
+judge 'no fault' 'line of stale' "$(forget; on_terminal "stale $own/file.toml")"
+forget
+: >"$own/builds"
+
 # The file
 answer >/dev/null
 judge 'the file is handed over' "$(cksum <"$own/file.toml")" "$(cksum <"$own/given")"
