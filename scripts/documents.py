@@ -217,10 +217,13 @@ def check_numbers(program):
     """The limits of whole numbers are those that the program tells, and the default of each number is that of the code's table."""
     kinds = dict(re.findall(r"Key::(\w+) => (?:from_one|ppn)\(.*, ([^,]*)\),", text_of(KEY_TABLE)))
     defaults = {key.lower(): number_of(default) for key, default in kinds.items()}
+    wholes = [key.lower() for key in re.findall(r"Key::(\w+) => from_one", text_of(KEY_TABLE))]
+    limited = []
     for command in ("run", "live", "walk"):
         for cell, value, default in rows(f"A file for `{command}`", "key"):
             key, limits = cell.strip("`"), re.match(r"whole number, (\d+) to (\d+)", value)
             if limits:
+                limited.append(key)
                 with tempfile.NamedTemporaryFile("w", suffix=".toml") as file:
                     file.write(f'{key} = "x"\n')
                     file.flush()
@@ -228,6 +231,7 @@ def check_numbers(program):
                 yield f"a whole number from {limits[1]} to {limits[2]} is expected" in printed, f"FORMAT has other limits of {key} than the program"
             if key in defaults:
                 yield int(default.strip("`\""), 0) == defaults.pop(key), f"FORMAT has another default of {key} than the code"
+    yield sorted(limited) == sorted(wholes), "FORMAT has limits of other keys than the code"
     yield not defaults, f"FORMAT has no default of {', '.join(defaults)}"
 
 
