@@ -1,6 +1,6 @@
 -- How the words of a step are read: each by itself, as what its place in the table asks for. Of
 -- several words that are wrong the gravest fault is told.
-use Rattle.std.specs.Prelude.{ℕ, List, [], ◌∷◌, Option, Result, Ok, Err}
+use Rattle.std.specs.Prelude.{ℕ, ◌≡◌, List, [], ◌∷◌, Option, Result, Ok, Err}
 use Rattle.std.specs.Result.{result_err}
 use Rattle.pte.specs.declared.scheme.Scheme.{Scheme}
 use Rattle.steps.specs.declared.fault.StepFault.{StepFault}
@@ -78,3 +78,8 @@ abbrev pub read_hart : {X : Type 0} → Scheme → ℕ → (List (List ℕ) → 
 read_hart scheme harts rest [] = Err NotStep
 read_hart scheme harts rest (word ∷ words) =
     followed (read scheme harts fields.Hart word nothing) nothing (rest words)
+
+-- what is read into parts: what it makes of them, or its fault
+abbrev pub ReadsInto : Result (Unit {0}) StepFault → Result Parts StepFault → Parts → Type 0
+ReadsInto (Ok done) read new = read ≡ Ok new
+ReadsInto (Err fault) read new = read ≡ Err fault

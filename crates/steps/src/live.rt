@@ -13,8 +13,8 @@ use history::LiveStep;
 use pte::Scheme;
 
 impl Parts {
-    fn live_map(self) -> Option<LiveStep>
-        ensures { result ≡ live_of names.Map self }
+    fn live_map(&self) -> Option<LiveStep>
+        ensures { result ≡ live_of names.Map self.now }
     {
         Some(LiveStep::Map {
             place: self.place,
@@ -24,8 +24,8 @@ impl Parts {
         })
     }
 
-    fn live_unmap(self) -> Option<LiveStep>
-        ensures { result ≡ live_of names.Unmap self }
+    fn live_unmap(&self) -> Option<LiveStep>
+        ensures { result ≡ live_of names.Unmap self.now }
     {
         Some(LiveStep::Unmap {
             place: self.place,
@@ -34,8 +34,8 @@ impl Parts {
         })
     }
 
-    fn live_protect(self) -> Option<LiveStep>
-        ensures { result ≡ live_of names.Protect self }
+    fn live_protect(&self) -> Option<LiveStep>
+        ensures { result ≡ live_of names.Protect self.now }
     {
         Some(LiveStep::Protect {
             place: self.place,
@@ -46,8 +46,8 @@ impl Parts {
     }
 
     /// The step that one of this name makes of these parts, `None` where `live` has no such step.
-    pub(crate) fn live_step(self, name: StepName) -> Option<LiveStep>
-        ensures { result ≡ live_of name self }
+    pub(crate) fn live_step(&self, name: StepName) -> Option<LiveStep>
+        ensures { result ≡ live_of name self.now }
     {
         let (space, ticket, other) = (self.space, self.ticket, self.other);
         let (scope, named, rs1, rs2) = (self.scope, self.named, self.rs1, self.rs2);
@@ -79,14 +79,14 @@ impl Parts {
     }
 
     /// The step of `live` whose name and words a text has.
-    fn live_words(&self, scheme: Scheme, harts: u8, text: &[u8]) -> Result<LiveStep, StepFault>
-        ensures { result ≡ live_words scheme harts (words_of text.now) self.now }
+    fn live_words(&mut self, scheme: Scheme, harts: u8, text: &[u8]) -> Result<LiveStep, StepFault>
+        ensures { result ≡ live_words scheme harts (words_of text.now) self.old }
     {
         let (word, rest) = next_word(text).ok_or(StepFault::NotStep)?;
         let name = StepName::of(word).ok_or(StepFault::NotStep)?;
         let fields = name.row().live.ok_or(StepFault::NotStep)?;
-        let parts = self.read_each(scheme, harts, fields, rest)?;
-        parts.live_step(name).ok_or(StepFault::NotStep)
+        self.read_each(scheme, harts, fields, rest)?;
+        self.live_step(name).ok_or(StepFault::NotStep)
     }
 }
 
@@ -103,7 +103,8 @@ impl Parts {
 pub fn live_step_among(scheme: Scheme, harts: u8, text: &str) -> Result<LiveStep, StepFault>
     ensures { result ≡ live_step_in scheme harts text.now }
 {
-    Parts::nothing().live_words(scheme, harts, text.as_bytes())
+    let mut parts = Parts::nothing();
+    parts.live_words(scheme, harts, text.as_bytes())
 }
 
 /// The hart and the step of `live` that a line of the setup writes, in a scheme and with `harts`
@@ -113,16 +114,16 @@ pub fn setup_step_among(scheme: Scheme, harts: u8, text: &str) -> Result<(u8, Li
     ensures { result ≡ setup_step_in scheme harts text.now }
 {
     let (word, rest) = next_word(text.as_bytes()).ok_or(StepFault::NotStep)?;
-    let nothing = Parts::nothing();
-    match nothing.read(scheme, harts, Field::Hart, word) {
-        Ok(own) => {
-            let hart = own.hart;
-            match own.live_words(scheme, harts, rest) {
+    let mut parts = Parts::nothing();
+    match parts.read(scheme, harts, Field::Hart, word) {
+        Ok(()) => {
+            let hart = parts.hart;
+            match parts.live_words(scheme, harts, rest) {
                 Ok(step) => Ok((hart, step)),
                 Err(fault) => Err(fault),
             }
         }
-        Err(fault) => match nothing.live_words(scheme, harts, rest) {
+        Err(fault) => match parts.live_words(scheme, harts, rest) {
             Ok(_) => Err(fault),
             Err(other) => Err(fault.graver(other)),
         },

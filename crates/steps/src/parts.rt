@@ -1,6 +1,6 @@
 //! What the words of a step say.
-ghost use Rattle.std.specs.Prelude.{◌≡◌};
-ghost use Rattle.steps.specs.Reading.{read, read_each, word_fault};
+ghost use Rattle.std.specs.Prelude.{◌≡◌, IfErr};
+ghost use Rattle.steps.specs.Reading.{read, read_each, ReadsInto, word_fault};
 ghost use Rattle.steps.specs.Table.{nothing};
 ghost use Rattle.steps.specs.Words.{words_of};
 
@@ -72,64 +72,66 @@ impl Parts {
         }
     }
 
-    /// These parts with what a word says, or what is wrong with the word.
+    /// Takes over what a word says, or tells what is wrong with the word.
+    #[inline(always)]
     pub(crate) fn read(
-        &self,
+        &mut self,
         scheme: Scheme,
         harts: u8,
         field: Field,
         word: &[u8],
-    ) -> Result<Parts, StepFault>
-        ensures { result ≡ read scheme harts field word.now self.now }
+    ) -> Result<(), StepFault>
+        ensures read { ReadsInto result (read scheme harts field word.now self.old) self.new }
+        ensures kept { IfErr result (λ fault. self.new ≡ self.old) }
     {
-        let mut parts = *self;
         match field {
-            Field::Hart => parts.hart = hart_in(harts, word)?,
-            Field::Mode => parts.ctx = read_ctx(word).ok_or(StepFault::NotStep)?,
-            Field::Access => parts.access = read_access(word).ok_or(StepFault::NotStep)?,
-            Field::Va => parts.va = num(word).ok_or(StepFault::NotStep)?,
-            Field::Address => parts.va = num(word).ok_or(StepFault::NotStep)?,
-            Field::Place => parts.place = place(word).ok_or(StepFault::NotStep)?,
-            Field::Page => parts.page = page_in(scheme, word)?,
-            Field::Ppn => parts.ppn = num(word).ok_or(StepFault::NotStep)?,
-            Field::Flags => parts.flags = flags(word).ok_or(StepFault::NotStep)?,
-            Field::Named => parts.named = named_in(harts, word)?,
-            Field::Scope => parts.scope = scope(word).ok_or(StepFault::NotStep)?,
-            Field::Rs1 => parts.rs1 = register(word).ok_or(StepFault::NotStep)?,
-            Field::Rs2 => parts.rs2 = register(word).ok_or(StepFault::NotStep)?,
-            Field::Space => parts.space = space(word).ok_or(StepFault::NotStep)?,
-            Field::Asid => parts.asid = asid(word).ok_or(StepFault::NotStep)?,
-            Field::Ticket => parts.ticket = ticket(word).ok_or(StepFault::NotStep)?,
-            Field::From => parts.other = hart_in(harts, word)?,
-            Field::To => parts.other = hart_in(harts, word)?,
+            Field::Hart => self.hart = hart_in(harts, word)?,
+            Field::Mode => self.ctx = read_ctx(word).ok_or(StepFault::NotStep)?,
+            Field::Access => self.access = read_access(word).ok_or(StepFault::NotStep)?,
+            Field::Va => self.va = num(word).ok_or(StepFault::NotStep)?,
+            Field::Address => self.va = num(word).ok_or(StepFault::NotStep)?,
+            Field::Place => self.place = place(word).ok_or(StepFault::NotStep)?,
+            Field::Page => self.page = page_in(scheme, word)?,
+            Field::Ppn => self.ppn = num(word).ok_or(StepFault::NotStep)?,
+            Field::Flags => self.flags = flags(word).ok_or(StepFault::NotStep)?,
+            Field::Named => self.named = named_in(harts, word)?,
+            Field::Scope => self.scope = scope(word).ok_or(StepFault::NotStep)?,
+            Field::Rs1 => self.rs1 = register(word).ok_or(StepFault::NotStep)?,
+            Field::Rs2 => self.rs2 = register(word).ok_or(StepFault::NotStep)?,
+            Field::Space => self.space = space(word).ok_or(StepFault::NotStep)?,
+            Field::Asid => self.asid = asid(word).ok_or(StepFault::NotStep)?,
+            Field::Ticket => self.ticket = ticket(word).ok_or(StepFault::NotStep)?,
+            Field::From => self.other = hart_in(harts, word)?,
+            Field::To => self.other = hart_in(harts, word)?,
         }
-        Ok(parts)
+        Ok(())
     }
 
-    /// These parts with what the words of a text say, one for each field and no more, or the first
+    /// Takes over what the words of a text say, one for each field and no more, or tells the first
     /// of their faults.
     pub(crate) fn read_each(
-        &self,
+        &mut self,
         scheme: Scheme,
         harts: u8,
         fields: &[Field],
         text: &[u8],
-    ) -> Result<Parts, StepFault>
-        ensures { result ≡ read_each scheme harts fields.now (words_of text.now) self.now }
+    ) -> Result<(), StepFault>
+        ensures { ReadsInto result
+            (read_each scheme harts fields.now (words_of text.now) self.old) self.new }
     {
         let [field, fields @ ..] = fields else {
             return match next_word(text) {
                 Some(_) => Err(StepFault::NotStep),
-                None => Ok(*self),
+                None => Ok(()),
             };
         };
         let Some((word, rest)) = next_word(text) else {
             return Err(StepFault::NotStep);
         };
         match self.read(scheme, harts, *field, word) {
-            Ok(parts) => parts.read_each(scheme, harts, fields, rest),
+            Ok(parts) => self.read_each(scheme, harts, fields, rest),
             Err(fault) => match self.read_each(scheme, harts, fields, rest) {
-                Ok(_) => Err(fault),
+                Ok(()) => Err(fault),
                 Err(other) => Err(fault.graver(other)),
             },
         }
@@ -142,6 +144,7 @@ impl Field {
     pub fn fault(self, scheme: Scheme, harts: u8, word: &[u8]) -> Option<StepFault>
         ensures { result ≡ word_fault scheme harts self word.now }
     {
-        Parts::nothing().read(scheme, harts, self, word).err()
+        let mut parts = Parts::nothing();
+        parts.read(scheme, harts, self, word).err()
     }
 }

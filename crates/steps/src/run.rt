@@ -14,8 +14,8 @@ use history::Event;
 use pte::{MAX_HARTS, Scheme};
 
 impl Parts {
-    fn begin(self) -> Option<Event>
-        ensures { result ≡ event_of names.Begin self }
+    fn begin(&self) -> Option<Event>
+        ensures { result ≡ event_of names.Begin self.now }
     {
         Some(Event::Begin {
             hart: self.hart,
@@ -25,8 +25,8 @@ impl Parts {
         })
     }
 
-    fn map(self) -> Option<Event>
-        ensures { result ≡ event_of names.Map self }
+    fn map(&self) -> Option<Event>
+        ensures { result ≡ event_of names.Map self.now }
     {
         Some(Event::Map {
             hart: self.hart,
@@ -37,8 +37,8 @@ impl Parts {
         })
     }
 
-    fn unmap(self) -> Option<Event>
-        ensures { result ≡ event_of names.Unmap self }
+    fn unmap(&self) -> Option<Event>
+        ensures { result ≡ event_of names.Unmap self.now }
     {
         Some(Event::Unmap {
             hart: self.hart,
@@ -48,8 +48,8 @@ impl Parts {
         })
     }
 
-    fn protect(self) -> Option<Event>
-        ensures { result ≡ event_of names.Protect self }
+    fn protect(&self) -> Option<Event>
+        ensures { result ≡ event_of names.Protect self.now }
     {
         Some(Event::Protect {
             hart: self.hart,
@@ -62,8 +62,8 @@ impl Parts {
 
     /// The event that a step of this name makes of these parts, `None` where `run` has no such
     /// step.
-    pub(crate) fn event(self, name: StepName) -> Option<Event>
-        ensures { result ≡ event_of name self }
+    pub(crate) fn event(&self, name: StepName) -> Option<Event>
+        ensures { result ≡ event_of name self.now }
     {
         let (hart, space, ticket, other) = (self.hart, self.space, self.ticket, self.other);
         let (scope, named, rs1, rs2) = (self.scope, self.named, self.rs1, self.rs2);
@@ -101,14 +101,14 @@ impl Parts {
     }
 
     /// The event of a step whose name and words a text has.
-    fn run_step(&self, scheme: Scheme, harts: u8, text: &[u8]) -> Result<Event, StepFault>
-        ensures { result ≡ read_step run_fields event_of scheme harts (words_of text.now) self.now }
+    fn run_step(&mut self, scheme: Scheme, harts: u8, text: &[u8]) -> Result<Event, StepFault>
+        ensures { result ≡ read_step run_fields event_of scheme harts (words_of text.now) self.old }
     {
         let (word, rest) = next_word(text).ok_or(StepFault::NotStep)?;
         let name = StepName::of(word).ok_or(StepFault::NotStep)?;
         let fields = name.row().run.ok_or(StepFault::NotStep)?;
-        let parts = self.read_each(scheme, harts, fields, rest)?;
-        parts.event(name).ok_or(StepFault::NotStep)
+        self.read_each(scheme, harts, fields, rest)?;
+        self.event(name).ok_or(StepFault::NotStep)
     }
 }
 
@@ -129,10 +129,10 @@ pub fn run_step_among(scheme: Scheme, harts: u8, text: &str) -> Result<Event, St
     ensures { result ≡ step_among scheme harts text.now }
 {
     let (word, rest) = next_word(text.as_bytes()).ok_or(StepFault::NotStep)?;
-    let nothing = Parts::nothing();
-    match nothing.read(scheme, harts, Field::Hart, word) {
-        Ok(own) => own.run_step(scheme, harts, rest),
-        Err(fault) => match nothing.run_step(scheme, harts, rest) {
+    let mut parts = Parts::nothing();
+    match parts.read(scheme, harts, Field::Hart, word) {
+        Ok(()) => parts.run_step(scheme, harts, rest),
+        Err(fault) => match parts.run_step(scheme, harts, rest) {
             Ok(_) => Err(fault),
             Err(other) => Err(fault.graver(other)),
         },

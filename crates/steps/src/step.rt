@@ -21,8 +21,9 @@ pub struct WalkStep {
 pub fn walk_step(text: &str) -> Option<WalkStep>
     ensures { result ≡ walk_step_of text.now }
 {
-    let read = Parts::nothing().read_each(Scheme::Sv39, 0, &WALK_FIELDS, text.as_bytes());
-    let parts = read.ok()?;
+    let mut parts = Parts::nothing();
+    let read = parts.read_each(Scheme::Sv39, 0, &WALK_FIELDS, text.as_bytes());
+    read.ok()?;
     Some(WalkStep {
         ctx: parts.ctx,
         access: parts.access,
