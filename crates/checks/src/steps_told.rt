@@ -7,7 +7,7 @@ use crate::report::{Piece, Report, Spot};
 use crate::step_texts::{List, Reader};
 use crate::tables_told::tell_tables;
 use crate::values::{Document, text_in, texts_in};
-use files::{Command, MOST_STEPS};
+use files::{Command, Key, MOST_STEPS};
 use pte::Scheme;
 use spaces::{MAX_FRAMES, MAX_HARTS, MAX_LIVE_FRAMES};
 use steps::StepFault;
@@ -114,7 +114,7 @@ fn tell_steps(
 {
     if let Some(values) = values {
         tell_many(report, values.len());
-        tell_list(report, document, "steps", reader, values);
+        tell_list(report, document, Key::Steps.name(), reader, values);
     }
 }
 
@@ -123,7 +123,11 @@ pub fn tell_walk(report: &mut Report, document: &Document<'_>)
     ensures { IsStillTrue report.old.is_out_of_memory report.new.is_out_of_memory }
 {
     tell_tables(report, document);
-    let values = document.texts(report, "steps", "an array of texts MODE ACCESS ADDRESS");
+    let values = document.texts(
+        report,
+        Key::Steps.name(),
+        "an array of texts MODE ACCESS ADDRESS",
+    );
     let _mode = document.mode(report);
     let reader = Reader {
         list: List::Walk,
@@ -138,7 +142,7 @@ pub fn tell_run(report: &mut Report, document: &Document<'_>)
     ensures { IsStillTrue report.old.is_out_of_memory report.new.is_out_of_memory }
 {
     let harts = tell_layout(report, document, MAX_FRAMES);
-    let values = document.texts(report, "steps", "an array of texts");
+    let values = document.texts(report, Key::Steps.name(), "an array of texts");
     let scheme = document.mode(report).unwrap_or(Scheme::Sv48);
     let reader = Reader {
         list: List::Run,
@@ -150,7 +154,7 @@ pub fn tell_run(report: &mut Report, document: &Document<'_>)
 
 /// The scripts of a document.
 fn scripts<'a>(document: &Document<'a>) -> &'a [Value] {
-    match document.value("scripts") {
+    match document.value(Key::Scripts.name()) {
         Some(Value::Array(scripts)) => scripts.as_slice(),
         _ => &[],
     }
@@ -160,11 +164,11 @@ fn scripts<'a>(document: &Document<'a>) -> &'a [Value] {
 fn tell_shape(report: &mut Report, document: &Document<'_>, harts: u8)
     ensures { IsStillTrue report.old.is_out_of_memory report.new.is_out_of_memory }
 {
-    let Some(value) = document.value("scripts") else {
+    let Some(value) = document.value(Key::Scripts.name()) else {
         return;
     };
     let Some(values) = value.as_array() else {
-        document.tell_kind(report, "scripts", SCRIPT_TEXTS, value);
+        document.tell_kind(report, Key::Scripts.name(), SCRIPT_TEXTS, value);
         return;
     };
     let count = values.len();
@@ -175,13 +179,13 @@ fn tell_shape(report: &mut Report, document: &Document<'_>, harts: u8)
             Piece::Number(u64::from(harts)),
             Piece::Text(if harts == 1 { " hart" } else { " harts" }),
         ];
-        document.tell(report, "scripts", &what);
+        document.tell(report, Key::Scripts.name(), &what);
     }
     for value in values.as_slice() {
         if report.is_full() {
             break;
         }
-        document.tell_texts(report, "scripts", SCRIPT_TEXTS, value);
+        document.tell_texts(report, Key::Scripts.name(), SCRIPT_TEXTS, value);
     }
 }
 
@@ -189,7 +193,7 @@ fn tell_shape(report: &mut Report, document: &Document<'_>, harts: u8)
 fn tell_scripts(report: &mut Report, document: &Document<'_>, reader: Reader, scripts: &[Value])
     ensures { IsStillTrue report.old.is_out_of_memory report.new.is_out_of_memory }
 {
-    let mut place = Place::of_key(report, document.text, "scripts");
+    let mut place = Place::of_key(report, document.text, Key::Scripts.name());
     if scripts.iter().any(|script| texts_in(script).is_none()) {
         place.marks.clear();
     }
@@ -228,7 +232,7 @@ pub fn tell_live(report: &mut Report, document: &Document<'_>)
 {
     let harts = tell_layout(report, document, MAX_LIVE_FRAMES);
     let harts = harts.unwrap_or(MAX_HARTS as u8);
-    let setup = document.texts(report, "setup", "an array of texts");
+    let setup = document.texts(report, Key::Setup.name(), "an array of texts");
     tell_shape(report, document, harts);
     document.tell_numbers(report, Command::Live.own_keys());
     let scheme = document.mode(report).unwrap_or(Scheme::Sv48);
@@ -252,7 +256,7 @@ fn tell_live_steps(
     let scripts = scripts(document);
     tell_many(report, count_all(setup, scripts));
     if let Some(values) = setup {
-        tell_list(report, document, "setup", &reader, values);
+        tell_list(report, document, Key::Setup.name(), &reader, values);
     }
     tell_scripts(report, document, reader, scripts)
 }
