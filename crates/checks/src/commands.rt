@@ -5,7 +5,7 @@ ghost use Rattle.toml.specs.View.{table_view};
 ghost use Rattle.checks.specs.Told.{command_of, has_key, has_own_key};
 
 pub use files::Command;
-use files::{Key, value_at};
+use files::{Key, value_of};
 use toml::Table;
 
 /// The command that a document is for: `live` if it has a key that no other command knows, else
@@ -40,7 +40,7 @@ fn has_one_of(table: &Table, keys: &[Key]) -> bool
 fn has_key(table: &Table, key: Key) -> bool
     ensures { result ≡ has_key (table_view table.now) key }
 {
-    match value_at(table, key) {
+    match value_of(table, key) {
         Some(_) => true,
         None => false,
     }

@@ -73,19 +73,20 @@ pub fn check_keys(alloc: Global, table: &Table, command: Command) -> Result<(), 
     }
 }
 
-fn value_of_name<'a>(table: &'a Table, name: &str) -> Option<&'a Value>
+/// The value at a key of this name.
+pub fn value_at<'a>(table: &'a Table, key: &str) -> Option<&'a Value>
     ensures { option_map (λ value. view value.now) result
-        ≡ get_member name.now (table_view table.now) }
+        ≡ get_member key.now (table_view table.now) }
 {
-    table.get(name)
+    table.get(key)
 }
 
-/// The value at a key.
-pub fn value_at(table: &Table, key: Key) -> Option<&Value>
+/// The value of a key of the table.
+pub fn value_of(table: &Table, key: Key) -> Option<&Value>
     ensures { option_map (λ value. view value.now) result
         ≡ member_of key (table_view table.now) }
 {
-    value_of_name(table, key.name())
+    value_at(table, key.name())
 }
 
 /// The number that a text of one word writes. `AllocError`: there was not enough memory.
@@ -134,7 +135,7 @@ pub fn texts_in<'a>(alloc: Global, value: &'a Value) -> Result<Option<Vec<&'a st
 pub fn texts_of_key<'a>(alloc: Global, table: &'a Table, key: Key) -> Result<Vec<&'a str>, Fault>
     ensures { Gives text_views result (texts_at key (table_view table.now)) }
 {
-    match value_at(table, key) {
+    match value_of(table, key) {
         Some(value) => match texts_in(alloc, value)? {
             Some(texts) => Ok(texts),
             None => Err(key_fault(alloc, key)),

@@ -20,7 +20,7 @@ mod run_file;
 mod settings;
 mod walk_file;
 
-pub use documents::{number, value_at};
+pub use documents::{number, value_at, value_of};
 pub use fault::Fault;
 pub use format_laws::{first_wrong_step, worked_turns};
 pub use frames::TableFrames;

@@ -6,7 +6,7 @@ ghost use Rattle.files.specs.Keys.{each, text_views, texts_of};
 ghost use Rattle.files.specs.StepTexts.{script_in, scripts_in, setup_steps_in};
 ghost use Rattle.files.specs.LiveFile.{few_scripts, live_plan_of, live_scenario_of, live_view, script_views, scripts_at, scripts_of, scripts_view, step_count, turns_at, turns_of};
 
-use crate::documents::{check_keys, document, key_fault, texts_in, texts_of_key, value_at};
+use crate::documents::{check_keys, document, key_fault, texts_in, texts_of_key, value_of};
 use crate::fault::Fault;
 use crate::key_table::{Command, DEFAULT_TURNS, Key};
 use crate::limits::MOST_STEPS;
@@ -30,7 +30,7 @@ fn positive(value: &Value) -> Option<u32>
 fn turns(alloc: Global, table: &Table) -> Result<u32, Fault>
     ensures { Gives (λ n. n) result (turns_at (table_view table.now)) }
 {
-    let Some(value) = value_at(table, Key::Turns) else {
+    let Some(value) = value_of(table, Key::Turns) else {
         return Ok(DEFAULT_TURNS);
     };
     match positive(value) {
@@ -95,7 +95,7 @@ fn scripts_of_key<'a>(
     ensures read { Gives script_views result (scripts_at harts (table_view table.now)) }
     ensures few { IfOk result (λ scripts. length scripts.items ≤ harts) }
 {
-    match value_at(table, Key::Scripts) {
+    match value_of(table, Key::Scripts) {
         Some(value) => match scripts_in(alloc, value, harts)? {
             Some(scripts) => Ok(scripts),
             None => Err(key_fault(alloc, Key::Scripts)),

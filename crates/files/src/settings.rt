@@ -8,7 +8,7 @@ ghost use Rattle.steps.specs.Words.{words_of};
 ghost use Rattle.files.specs.Keys.{each, one_word};
 ghost use Rattle.files.specs.Settings.{base_at, checked, config_at, few_spaces, mode_at, scheme_named, space, space_of, space_of_words, spaces_at, spaces_of, spares_at, spares_of, whole_at, whole_of, wholes_of};
 
-use crate::documents::{key_fault, number, texts_in, value_at};
+use crate::documents::{key_fault, number, texts_in, value_of};
 use crate::fault::Fault;
 use crate::key_table::Key;
 use arrayvec::ArrayVec;
@@ -29,7 +29,7 @@ fn whole(value: &Value) -> Option<u16>
 fn whole_at(alloc: Global, table: &Table, key: Key, default: u16) -> Result<u16, Fault>
     ensures { Gives (λ n. n) result (whole_at key default (table_view table.now)) }
 {
-    let Some(value) = value_at(table, key) else {
+    let Some(value) = value_of(table, key) else {
         return Ok(default);
     };
     match whole(value) {
@@ -41,7 +41,7 @@ fn whole_at(alloc: Global, table: &Table, key: Key, default: u16) -> Result<u16,
 fn base(alloc: Global, table: &Table) -> Result<u64, Fault>
     ensures { Gives (λ n. n) result (base_at (table_view table.now)) }
 {
-    let Some(value) = value_at(table, Key::Base) else {
+    let Some(value) = value_of(table, Key::Base) else {
         return Ok(Config::default().base);
     };
     let Some(text) = value.as_str() else {
@@ -88,7 +88,7 @@ fn scheme(alloc: Global, text: &str) -> Result<Option<Scheme>, AllocError>
 pub fn mode(alloc: Global, table: &Table) -> Result<Scheme, Fault>
     ensures { Gives (λ scheme. scheme) result (mode_at (table_view table.now)) }
 {
-    let Some(value) = value_at(table, Key::Mode) else {
+    let Some(value) = value_of(table, Key::Mode) else {
         return Ok(Config::default().scheme);
     };
     let Some(text) = value.as_str() else {
@@ -131,7 +131,7 @@ fn spares_in(value: &Value) -> Option<ArrayVec<u16, MAX_HARTS>>
 fn spares(alloc: Global, table: &Table, harts: u16) -> Result<ArrayVec<u16, MAX_HARTS>, Fault>
     ensures { Gives (λ v. v.items) result (spares_at harts (table_view table.now)) }
 {
-    let Some(value) = value_at(table, Key::Spares) else {
+    let Some(value) = value_of(table, Key::Spares) else {
         return Ok(Config::with_harts(harts).spares);
     };
     match spares_in(value) {
@@ -204,7 +204,7 @@ fn spaces_in(
 fn spaces(alloc: Global, table: &Table) -> Result<ArrayVec<Space, MAX_SPACES>, Fault>
     ensures { Gives (λ v. v.items) result (spaces_at (table_view table.now)) }
 {
-    let Some(value) = value_at(table, Key::Spaces) else {
+    let Some(value) = value_of(table, Key::Spaces) else {
         return Ok(Config::default().spaces);
     };
     match spaces_in(alloc, value)? {

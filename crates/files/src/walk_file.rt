@@ -8,7 +8,7 @@ ghost use Rattle.files.specs.Memory.{is_frame_of, is_listed, word_at};
 ghost use Rattle.files.specs.StepTexts.{walk_steps_in};
 ghost use Rattle.files.specs.WalkFile.{frames_at, plan_view, ppn_of, ppns_of, root_at, tables_at, walk_plan_of, walk_scenario_of, word_in_table, word_of, words_at};
 
-use crate::documents::{check_keys, document, key_fault, number, texts_of_key, value_at};
+use crate::documents::{check_keys, document, key_fault, number, texts_of_key, value_of};
 use crate::fault::Fault;
 use crate::frames::{Frames, TableFrames, TableWord};
 use crate::key_table::{Command, Key};
@@ -33,7 +33,7 @@ fn root(alloc: Global, table: &Table) -> Result<u64, Fault>
     ensures value { Gives (λ root. root) result (root_at (table_view table.now)) }
     ensures in_range { IfOk result (λ root. root < 2 ^ PPN_BITS) }
 {
-    let Some(value) = value_at(table, Key::Root) else {
+    let Some(value) = value_of(table, Key::Root) else {
         return Ok(Config::default().base);
     };
     let Some(text) = value.as_str() else {
