@@ -27,11 +27,17 @@ switch_to_a_space = refl
 pub fence_of_an_address : rows.fence_of_an_address
 fence_of_an_address = refl
 
+pub fence_of_both : rows.fence_of_both
+fence_of_both = refl
+
 pub post_to_hart_2 : rows.post_to_hart_2
 post_to_hart_2 = refl
 
 pub serve_of_hart_0 : rows.serve_of_hart_0
 serve_of_hart_0 = refl
+
+pub serve_of_hart_5 : rows.serve_of_hart_5
+serve_of_hart_5 = refl
 
 pub ackself_of_the_last : rows.ackself_of_the_last
 ackself_of_the_last = refl
@@ -69,6 +75,12 @@ take_in_the_setup = refl
 pub retire_in_a_script : rows.retire_in_a_script
 retire_in_a_script = refl
 
+pub run_alone_in_a_script : rows.run_alone_in_a_script
+run_alone_in_a_script = refl
+
+pub live_alone_in_a_run : rows.live_alone_in_a_run
+live_alone_in_a_run = refl
+
 pub wait_in_a_run : rows.wait_in_a_run
 wait_in_a_run = refl
 
@@ -96,8 +108,8 @@ terapage_of_live = refl
 pub no_terapage_of_live : rows.no_terapage_of_live
 no_terapage_of_live = refl
 
-pub ruleset live_step_rows = (translate_to_store, map_of_the_kernel, unmap_of_a_space, protect_of_a_space, flush_of_a_space, switch_to_a_space, fence_of_an_address, post_to_hart_2, serve_of_hart_0, ackself_of_the_last, collect_of_a_ticket, finish_of_a_ticket, close_to_hart_7, wait_for_a_ticket, setup_of_hart_3)
+pub ruleset live_step_rows = (translate_to_store, map_of_the_kernel, unmap_of_a_space, protect_of_a_space, flush_of_a_space, switch_to_a_space, fence_of_an_address, fence_of_both, post_to_hart_2, serve_of_hart_0, serve_of_hart_5, ackself_of_the_last, collect_of_a_ticket, finish_of_a_ticket, close_to_hart_7, wait_for_a_ticket, setup_of_hart_3)
 
-pub ruleset live_fault_rows = (hart_before_a_line, no_hart_before_setup, collect_with_a_hart, take_in_a_script, take_in_the_setup, retire_in_a_script, wait_in_a_run, collect_without_a_hart, unread_before_absent, absent_before_no_page, absent_of_the_setup, no_page_of_live, no_page_of_the_setup)
+pub ruleset live_fault_rows = (hart_before_a_line, no_hart_before_setup, collect_with_a_hart, take_in_a_script, take_in_the_setup, retire_in_a_script, run_alone_in_a_script, live_alone_in_a_run, wait_in_a_run, collect_without_a_hart, unread_before_absent, absent_before_no_page, absent_of_the_setup, no_page_of_live, no_page_of_the_setup)
 
 pub ruleset live_page_rows = (terapage_of_live, no_terapage_of_live)

@@ -93,23 +93,41 @@ servefence_of_hart_3 = refl
 pub ack_of_hart_3 : rows.ack_of_hart_3
 ack_of_hart_3 = refl
 
-pub ackself_of_hart_0 : rows.ackself_of_hart_0
-ackself_of_hart_0 = refl
+pub ackself_of_hart_2 : rows.ackself_of_hart_2
+ackself_of_hart_2 = refl
 
 pub collect_from_hart_3 : rows.collect_from_hart_3
 collect_from_hart_3 = refl
 
-pub finish_of_hart_0 : rows.finish_of_hart_0
-finish_of_hart_0 = refl
+pub finish_of_hart_2 : rows.finish_of_hart_2
+finish_of_hart_2 = refl
 
 pub close_to_hart_3 : rows.close_to_hart_3
 close_to_hart_3 = refl
+
+pub protect_of_a_space : rows.protect_of_a_space
+unfolding byte_of
+protect_of_a_space = refl
+
+pub unmap_of_a_space : rows.unmap_of_a_space
+unfolding byte_of
+unmap_of_a_space = refl
+
+pub flush_of_a_space : rows.flush_of_a_space
+unfolding byte_of
+flush_of_a_space = refl
+
+pub take_from_hart_6 : rows.take_from_hart_6
+take_from_hart_6 = refl
 
 pub no_step : rows.no_step
 no_step = refl
 
 pub no_hart : rows.no_hart
 no_hart = refl
+
+pub no_step_after_no_page : rows.no_step_after_no_page
+no_step_after_no_page = refl
 
 pub no_page : rows.no_page
 no_page = refl
@@ -134,8 +152,8 @@ pub ruleset letter_rows = (letter_r, letter_w, letter_x, letter_u, letter_g, let
 
 pub ruleset step_rows = (blanks_between_words, store_of_walk, begin_with_mxr, fence_of_a_space, unmap_of_the_kernel, flush_of_all, take_from_hart_0, retire_of_a_space, reclaim_of_a_space, create_of_a_space, wide_asid)
 
-pub ruleset fault_rows = (no_step, no_hart, no_page)
+pub ruleset fault_rows = (no_step, no_hart, no_step_after_no_page, no_page)
 
 pub ruleset page_rows = (terapage, no_terapage, unaligned_terapage, far_page, farther_page)
 
-pub ruleset line_rows = (load_of_hart_2, map_of_a_space, protect_of_the_kernel, switch_of_hart_1, post_to_hart_3, servefence_of_hart_3, ack_of_hart_3, ackself_of_hart_0, collect_from_hart_3, finish_of_hart_0, close_to_hart_3)
+pub ruleset line_rows = (load_of_hart_2, map_of_a_space, protect_of_the_kernel, protect_of_a_space, unmap_of_a_space, flush_of_a_space, take_from_hart_6, switch_of_hart_1, post_to_hart_3, servefence_of_hart_3, ack_of_hart_3, ackself_of_hart_2, collect_from_hart_3, finish_of_hart_2, close_to_hart_3)

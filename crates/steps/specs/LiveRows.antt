@@ -1,5 +1,5 @@
 -- Worked rows of the steps of `live`: what was worked out by hand from the table of their texts.
-use Rattle.std.specs.Prelude.{◌≡◌, true, false, codes, Some, None, Ok, Err}
+use Rattle.std.specs.Prelude.{◌≡◌, true, false, codes, [], ◌∷◌, map, replicate, Some, None, Ok, Err}
 use Rattle.pte.specs.declared.scheme.Scheme.TheVariants.{Sv39, Sv48}
 use Rattle.pte.specs.declared.address.PageSize.TheVariants.{Kib4, Mib2, Gib1, Gib512}
 use Rattle.pte.specs.declared.permission.Access.TheVariants.{Store}
@@ -45,11 +45,17 @@ switch_to_a_space = live_step_in Sv39 8 (codes "switch 0xFF") ≡ Ok (live.Switc
 abbrev pub fence_of_an_address : Type 0
 fence_of_an_address = live_step_in Sv39 8 (codes "fence 4096 x0") ≡ Ok (live.Fence (Some 4096) None)
 
+abbrev pub fence_of_both : Type 0
+fence_of_both = live_step_in Sv39 8 (codes "fence 4096 2") ≡ Ok (live.Fence (Some 4096) (Some 2))
+
 abbrev pub post_to_hart_2 : Type 0
 post_to_hart_2 = live_step_in Sv39 8 (codes "post 63 2") ≡ Ok (live.Post 63 2)
 
 abbrev pub serve_of_hart_0 : Type 0
 serve_of_hart_0 = live_step_in Sv39 8 (codes "serve 0") ≡ Ok (live.Serve 0)
+
+abbrev pub serve_of_hart_5 : Type 0
+serve_of_hart_5 = live_step_in Sv39 8 (codes "serve 5") ≡ Ok (live.Serve 5)
 
 abbrev pub ackself_of_the_last : Type 0
 ackself_of_the_last =
@@ -89,6 +95,20 @@ take_in_the_setup = setup_step_in Sv39 1 (codes "9 take 9") ≡ Err NotStep
 
 abbrev pub retire_in_a_script : Type 0
 retire_in_a_script = live_step_in Sv39 8 (codes "retire 0") ≡ Err NotStep
+
+-- no other step of `run` alone is a line of a script
+abbrev pub run_alone_in_a_script : Type 0
+run_alone_in_a_script =
+    map (live_step_in Sv39 8)
+    (codes "begin u load 16" ∷ codes "load" ∷ codes "servefence" ∷ codes "ack"
+    ∷ codes "reclaim 1" ∷ codes "create 1 2" ∷ [])
+    ≡ replicate 6 (Err NotStep)
+
+-- no other step of `live` alone is one of `run`
+abbrev pub live_alone_in_a_run : Type 0
+live_alone_in_a_run =
+    map (step_among Sv39 8) (codes "1 translate u load 16" ∷ codes "1 serve 0" ∷ [])
+    ≡ replicate 2 (Err NotStep)
 
 abbrev pub wait_in_a_run : Type 0
 wait_in_a_run = step_among Sv39 8 (codes "0 wait 9") ≡ Err NotStep

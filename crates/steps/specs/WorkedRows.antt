@@ -76,7 +76,7 @@ begin_with_mxr =
     ≡ Some (events.Begin 7 10 Load (record { mode = User; sum = false; mxr = true }))
 
 abbrev pub fence_of_a_space : Type 0
-fence_of_a_space = run_step_of Sv39 (codes "0 fence x0 2") ≡ Some (events.Fence 0 None (Some 2))
+fence_of_a_space = run_step_of Sv39 (codes "4 fence x0 2") ≡ Some (events.Fence 4 None (Some 2))
 
 abbrev pub unmap_of_the_kernel : Type 0
 unmap_of_the_kernel =
@@ -90,10 +90,10 @@ abbrev pub take_from_hart_0 : Type 0
 take_from_hart_0 = run_step_of Sv39 (codes "1 take 0") ≡ Some (events.Take 1 0)
 
 abbrev pub retire_of_a_space : Type 0
-retire_of_a_space = run_step_of Sv39 (codes "0 retire 255") ≡ Some (events.Retire 0 255)
+retire_of_a_space = run_step_of Sv39 (codes "6 retire 255") ≡ Some (events.Retire 6 255)
 
 abbrev pub reclaim_of_a_space : Type 0
-reclaim_of_a_space = run_step_of Sv39 (codes "0 reclaim 1") ≡ Some (events.Reclaim 0 1)
+reclaim_of_a_space = run_step_of Sv39 (codes "5 reclaim 1") ≡ Some (events.Reclaim 5 1)
 
 abbrev pub create_of_a_space : Type 0
 create_of_a_space = run_step_of Sv39 (codes "1 create 31 65535") ≡ Some (events.Create 1 31 65535)
@@ -102,24 +102,49 @@ create_of_a_space = run_step_of Sv39 (codes "1 create 31 65535") ≡ Some (event
 abbrev pub wide_asid : Type 0
 wide_asid = run_step_of Sv39 (codes "0 create 1 65536") ≡ None
 
--- ---- the other lines of `run`, each once
+-- ---- the other lines of `run`: each line has a row with values that are not those of an empty step
 
 abbrev pub load_of_hart_2 : Type 0
 load_of_hart_2 = run_step_of Sv39 (codes "2 load") ≡ Some (events.Load 2)
 
 abbrev pub map_of_a_space : Type 0
-map_of_a_space = run_step_of Sv39 (codes "0 map 3 4K:0x2000 0x80005 rwua") ≡ Some (events.Map 0 (places.Space 3) (record { base = 0x2000; size = Kib4 }) 0x80005
+map_of_a_space =
+    run_step_of Sv39 (codes "6 map 3 4K:0x2000 0x80005 rwua")
+    ≡ Some
+    (events.Map 6 (places.Space 3) (record { base = 0x2000; size = Kib4 }) 0x80005
     (record { 0 = 0x56 }))
 
 abbrev pub protect_of_the_kernel : Type 0
-protect_of_the_kernel = run_step_of Sv39 (codes "5 protect k 1G:0xffffffffc0000000 rg 0,5") ≡ Some (events.Protect 5 places.Kernel (record { base = 0xffffffffc0000000; size = Gib1 })
+protect_of_the_kernel =
+    run_step_of Sv39 (codes "5 protect k 1G:0xffffffffc0000000 rg 0,5")
+    ≡ Some
+    (events.Protect 5 places.Kernel (record { base = 0xffffffffc0000000; size = Gib1 })
     (record { 0 = 0x22 }) 0x21)
+
+abbrev pub protect_of_a_space : Type 0
+protect_of_a_space =
+    run_step_of Sv39 (codes "2 protect 9 2M:0x600000 w 7")
+    ≡ Some
+    (events.Protect 2 (places.Space 9) (record { base = 0x600000; size = Mib2 })
+    (record { 0 = 0x04 }) 0x80)
+
+abbrev pub unmap_of_a_space : Type 0
+unmap_of_a_space =
+    run_step_of Sv39 (codes "3 unmap 7 4K:0x3000 2")
+    ≡ Some (events.Unmap 3 (places.Space 7) (record { base = 0x3000; size = Kib4 }) 0x04)
+
+abbrev pub flush_of_a_space : Type 0
+flush_of_a_space =
+    run_step_of Sv39 (codes "3 flush 31 0,2") ≡ Some (events.Flush 3 (scopes.Space 31) 0x05)
+
+abbrev pub take_from_hart_6 : Type 0
+take_from_hart_6 = run_step_of Sv39 (codes "1 take 6") ≡ Some (events.Take 1 6)
 
 abbrev pub switch_of_hart_1 : Type 0
 switch_of_hart_1 = run_step_of Sv39 (codes "1 switch 2") ≡ Some (events.Switch 1 2)
 
 abbrev pub post_to_hart_3 : Type 0
-post_to_hart_3 = run_step_of Sv39 (codes "0 post 9 3") ≡ Some (events.Post 0 9 3)
+post_to_hart_3 = run_step_of Sv39 (codes "5 post 9 3") ≡ Some (events.Post 5 9 3)
 
 abbrev pub servefence_of_hart_3 : Type 0
 servefence_of_hart_3 = run_step_of Sv39 (codes "3 servefence") ≡ Some (events.ServeFence 3)
@@ -127,17 +152,17 @@ servefence_of_hart_3 = run_step_of Sv39 (codes "3 servefence") ≡ Some (events.
 abbrev pub ack_of_hart_3 : Type 0
 ack_of_hart_3 = run_step_of Sv39 (codes "3 ack") ≡ Some (events.Ack 3)
 
-abbrev pub ackself_of_hart_0 : Type 0
-ackself_of_hart_0 = run_step_of Sv39 (codes "0 ackself 9") ≡ Some (events.AckSelf 0 9)
+abbrev pub ackself_of_hart_2 : Type 0
+ackself_of_hart_2 = run_step_of Sv39 (codes "2 ackself 9") ≡ Some (events.AckSelf 2 9)
 
 abbrev pub collect_from_hart_3 : Type 0
-collect_from_hart_3 = run_step_of Sv39 (codes "0 collect 9 3") ≡ Some (events.Collect 0 9 3)
+collect_from_hart_3 = run_step_of Sv39 (codes "5 collect 9 3") ≡ Some (events.Collect 5 9 3)
 
-abbrev pub finish_of_hart_0 : Type 0
-finish_of_hart_0 = run_step_of Sv39 (codes "0 finish 9") ≡ Some (events.Finish 0 9)
+abbrev pub finish_of_hart_2 : Type 0
+finish_of_hart_2 = run_step_of Sv39 (codes "2 finish 9") ≡ Some (events.Finish 2 9)
 
 abbrev pub close_to_hart_3 : Type 0
-close_to_hart_3 = run_step_of Sv39 (codes "0 close 3") ≡ Some (events.Close 0 3)
+close_to_hart_3 = run_step_of Sv39 (codes "4 close 3") ≡ Some (events.Close 4 3)
 
 -- ---- the first fault of several
 
@@ -146,6 +171,9 @@ no_step = step_among Sv39 1 (codes "9 flush all 9,x") ≡ Err NotStep
 
 abbrev pub no_hart : Type 0
 no_hart = step_among Sv39 8 (codes "8 unmap 0 4K:0x1 0") ≡ Err NoSuchHart
+
+abbrev pub no_step_after_no_page : Type 0
+no_step_after_no_page = step_among Sv39 8 (codes "0 unmap 0 4K:0x1 x") ≡ Err NotStep
 
 abbrev pub no_page : Type 0
 no_page = step_among Sv39 8 (codes "7 unmap 0 4K:0x1 0") ≡ Err NotPage

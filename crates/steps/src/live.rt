@@ -1,6 +1,7 @@
 //! The steps of `live`.
 ghost use Rattle.std.specs.Prelude.{◌≡◌};
 ghost use Rattle.steps.specs.LiveSteps.{live_step_in, live_words, setup_step_in};
+ghost use Rattle.steps.specs.StepFaults.{asked};
 ghost use Rattle.steps.specs.Table.{live_of};
 ghost use Rattle.steps.specs.Words.{words_of};
 ghost use Rattle.steps.specs.declared.table.StepName.TheVariants as names;
@@ -13,10 +14,10 @@ use history::LiveStep;
 use pte::Scheme;
 
 impl Parts {
-    fn live_map(&self) -> Option<LiveStep>
-        ensures { result ≡ live_of names.Map self.now }
+    fn live_map(&self) -> Result<LiveStep, StepFault>
+        ensures { result ≡ asked (live_of names.Map self.now) }
     {
-        Some(LiveStep::Map {
+        Ok(LiveStep::Map {
             place: self.place,
             page: self.page,
             ppn: self.ppn,
@@ -24,20 +25,20 @@ impl Parts {
         })
     }
 
-    fn live_unmap(&self) -> Option<LiveStep>
-        ensures { result ≡ live_of names.Unmap self.now }
+    fn live_unmap(&self) -> Result<LiveStep, StepFault>
+        ensures { result ≡ asked (live_of names.Unmap self.now) }
     {
-        Some(LiveStep::Unmap {
+        Ok(LiveStep::Unmap {
             place: self.place,
             page: self.page,
             named: self.named,
         })
     }
 
-    fn live_protect(&self) -> Option<LiveStep>
-        ensures { result ≡ live_of names.Protect self.now }
+    fn live_protect(&self) -> Result<LiveStep, StepFault>
+        ensures { result ≡ asked (live_of names.Protect self.now) }
     {
-        Some(LiveStep::Protect {
+        Ok(LiveStep::Protect {
             place: self.place,
             page: self.page,
             flags: self.flags,
@@ -45,28 +46,28 @@ impl Parts {
         })
     }
 
-    /// The step that one of this name makes of these parts, `None` where `live` has no such step.
-    pub(crate) fn live_step(&self, name: StepName) -> Option<LiveStep>
-        ensures { result ≡ live_of name self.now }
+    /// The step that one of this name makes of these parts. `NotStep`: `live` has no such step.
+    pub(crate) fn live_step(&self, name: StepName) -> Result<LiveStep, StepFault>
+        ensures { result ≡ asked (live_of name self.now) }
     {
         let (space, ticket, other) = (self.space, self.ticket, self.other);
         let (scope, named, rs1, rs2) = (self.scope, self.named, self.rs1, self.rs2);
         let (va, access, ctx) = (self.va, self.access, self.ctx);
         match name {
-            StepName::Translate => Some(LiveStep::Translate { va, access, ctx }),
-            StepName::Map => self.live_map(),
-            StepName::Unmap => self.live_unmap(),
-            StepName::Protect => self.live_protect(),
-            StepName::Flush => Some(LiveStep::Flush { scope, named }),
-            StepName::Switch => Some(LiveStep::Switch { space }),
-            StepName::Fence => Some(LiveStep::Fence { rs1, rs2 }),
-            StepName::Post => Some(LiveStep::Post { ticket, to: other }),
-            StepName::Serve => Some(LiveStep::Serve { from: other }),
-            StepName::AckSelf => Some(LiveStep::AckSelf { ticket }),
-            StepName::Collect => Some(LiveStep::Collect { ticket }),
-            StepName::Finish => Some(LiveStep::Finish { ticket }),
-            StepName::Close => Some(LiveStep::Close { to: other }),
-            StepName::Wait => Some(LiveStep::Wait { ticket }),
+            StepName::Translate => return Ok(LiveStep::Translate { va, access, ctx }),
+            StepName::Map => return self.live_map(),
+            StepName::Unmap => return self.live_unmap(),
+            StepName::Protect => return self.live_protect(),
+            StepName::Flush => return Ok(LiveStep::Flush { scope, named }),
+            StepName::Switch => return Ok(LiveStep::Switch { space }),
+            StepName::Fence => return Ok(LiveStep::Fence { rs1, rs2 }),
+            StepName::Post => return Ok(LiveStep::Post { ticket, to: other }),
+            StepName::Serve => return Ok(LiveStep::Serve { from: other }),
+            StepName::AckSelf => return Ok(LiveStep::AckSelf { ticket }),
+            StepName::Collect => return Ok(LiveStep::Collect { ticket }),
+            StepName::Finish => return Ok(LiveStep::Finish { ticket }),
+            StepName::Close => return Ok(LiveStep::Close { to: other }),
+            StepName::Wait => return Ok(LiveStep::Wait { ticket }),
             StepName::Begin
             | StepName::Load
             | StepName::Take
@@ -74,7 +75,7 @@ impl Parts {
             | StepName::Ack
             | StepName::Retire
             | StepName::Reclaim
-            | StepName::Create => None,
+            | StepName::Create => return Err(StepFault::NotStep),
         }
     }
 
@@ -86,7 +87,7 @@ impl Parts {
         let name = StepName::of(word).ok_or(StepFault::NotStep)?;
         let fields = name.row().live.ok_or(StepFault::NotStep)?;
         self.read_each(scheme, harts, fields, rest)?;
-        self.live_step(name).ok_or(StepFault::NotStep)
+        self.live_step(name)
     }
 }
 

@@ -1,7 +1,8 @@
 //! The steps of `run`.
-ghost use Rattle.std.specs.Prelude.{◌≡◌};
-ghost use Rattle.steps.specs.Reading.{read_step};
+ghost use Rattle.std.specs.Prelude.{◌≡◌, Err};
+ghost use Rattle.steps.specs.Reading.{at_least, read_step};
 ghost use Rattle.steps.specs.RunStep.{run_step_of, step_among};
+ghost use Rattle.steps.specs.StepFaults.{asked};
 ghost use Rattle.steps.specs.Table.{event_of, run_fields};
 ghost use Rattle.steps.specs.Words.{words_of};
 ghost use Rattle.steps.specs.declared.table.StepName.TheVariants as names;
@@ -14,10 +15,10 @@ use history::Event;
 use pte::{MAX_HARTS, Scheme};
 
 impl Parts {
-    fn begin(&self) -> Option<Event>
-        ensures { result ≡ event_of names.Begin self.now }
+    fn begin(&self) -> Result<Event, StepFault>
+        ensures { result ≡ asked (event_of names.Begin self.now) }
     {
-        Some(Event::Begin {
+        Ok(Event::Begin {
             hart: self.hart,
             va: self.va,
             access: self.access,
@@ -25,10 +26,10 @@ impl Parts {
         })
     }
 
-    fn map(&self) -> Option<Event>
-        ensures { result ≡ event_of names.Map self.now }
+    fn map(&self) -> Result<Event, StepFault>
+        ensures { result ≡ asked (event_of names.Map self.now) }
     {
-        Some(Event::Map {
+        Ok(Event::Map {
             hart: self.hart,
             place: self.place,
             page: self.page,
@@ -37,10 +38,10 @@ impl Parts {
         })
     }
 
-    fn unmap(&self) -> Option<Event>
-        ensures { result ≡ event_of names.Unmap self.now }
+    fn unmap(&self) -> Result<Event, StepFault>
+        ensures { result ≡ asked (event_of names.Unmap self.now) }
     {
-        Some(Event::Unmap {
+        Ok(Event::Unmap {
             hart: self.hart,
             place: self.place,
             page: self.page,
@@ -48,10 +49,10 @@ impl Parts {
         })
     }
 
-    fn protect(&self) -> Option<Event>
-        ensures { result ≡ event_of names.Protect self.now }
+    fn protect(&self) -> Result<Event, StepFault>
+        ensures { result ≡ asked (event_of names.Protect self.now) }
     {
-        Some(Event::Protect {
+        Ok(Event::Protect {
             hart: self.hart,
             place: self.place,
             page: self.page,
@@ -60,47 +61,49 @@ impl Parts {
         })
     }
 
-    /// The event that a step of this name makes of these parts, `None` where `run` has no such
-    /// step.
-    pub(crate) fn event(&self, name: StepName) -> Option<Event>
-        ensures { result ≡ event_of name self.now }
+    /// The event that a step of this name makes of these parts. `NotStep`: `run` has no such step.
+    pub(crate) fn event(&self, name: StepName) -> Result<Event, StepFault>
+        ensures { result ≡ asked (event_of name self.now) }
     {
         let (hart, space, ticket, other) = (self.hart, self.space, self.ticket, self.other);
         let (scope, named, rs1, rs2) = (self.scope, self.named, self.rs1, self.rs2);
         let asid = self.asid;
         match name {
-            StepName::Begin => self.begin(),
-            StepName::Load => Some(Event::Load { hart }),
-            StepName::Map => self.map(),
-            StepName::Unmap => self.unmap(),
-            StepName::Protect => self.protect(),
-            StepName::Flush => Some(Event::Flush { hart, scope, named }),
-            StepName::Switch => Some(Event::Switch { hart, space }),
-            StepName::Fence => Some(Event::Fence { hart, rs1, rs2 }),
-            StepName::Post => Some(Event::Post {
+            StepName::Begin => return self.begin(),
+            StepName::Load => return Ok(Event::Load { hart }),
+            StepName::Map => return self.map(),
+            StepName::Unmap => return self.unmap(),
+            StepName::Protect => return self.protect(),
+            StepName::Flush => return Ok(Event::Flush { hart, scope, named }),
+            StepName::Switch => return Ok(Event::Switch { hart, space }),
+            StepName::Fence => return Ok(Event::Fence { hart, rs1, rs2 }),
+            StepName::Post => return Ok(Event::Post {
                 hart,
                 ticket,
                 to: other,
             }),
-            StepName::Take => Some(Event::Take { hart, from: other }),
-            StepName::ServeFence => Some(Event::ServeFence { hart }),
-            StepName::Ack => Some(Event::Ack { hart }),
-            StepName::AckSelf => Some(Event::AckSelf { hart, ticket }),
-            StepName::Collect => Some(Event::Collect {
+            StepName::Take => return Ok(Event::Take { hart, from: other }),
+            StepName::ServeFence => return Ok(Event::ServeFence { hart }),
+            StepName::Ack => return Ok(Event::Ack { hart }),
+            StepName::AckSelf => return Ok(Event::AckSelf { hart, ticket }),
+            StepName::Collect => return Ok(Event::Collect {
                 hart,
                 ticket,
                 from: other,
             }),
-            StepName::Finish => Some(Event::Finish { hart, ticket }),
-            StepName::Close => Some(Event::Close { hart, to: other }),
-            StepName::Retire => Some(Event::Retire { hart, space }),
-            StepName::Reclaim => Some(Event::Reclaim { hart, space }),
-            StepName::Create => Some(Event::Create { hart, space, asid }),
-            StepName::Translate | StepName::Serve | StepName::Wait => None,
+            StepName::Finish => return Ok(Event::Finish { hart, ticket }),
+            StepName::Close => return Ok(Event::Close { hart, to: other }),
+            StepName::Retire => return Ok(Event::Retire { hart, space }),
+            StepName::Reclaim => return Ok(Event::Reclaim { hart, space }),
+            StepName::Create => return Ok(Event::Create { hart, space, asid }),
+            StepName::Translate | StepName::Serve | StepName::Wait => return Err(
+                StepFault::NotStep,
+            ),
         }
     }
 
     /// The event of a step whose name and words a text has.
+    #[inline(always)]
     fn run_step(&mut self, scheme: Scheme, harts: u8, text: &[u8]) -> Result<Event, StepFault>
         ensures { result ≡ read_step run_fields event_of scheme harts (words_of text.now) self.old }
     {
@@ -108,7 +111,18 @@ impl Parts {
         let name = StepName::of(word).ok_or(StepFault::NotStep)?;
         let fields = name.row().run.ok_or(StepFault::NotStep)?;
         self.read_each(scheme, harts, fields, rest)?;
-        self.event(name).ok_or(StepFault::NotStep)
+        self.event(name)
+    }
+
+    /// A fault, or a graver one of the text after it.
+    fn run_fault(&mut self, scheme: Scheme, harts: u8, fault: StepFault, text: &[u8]) -> StepFault
+        ensures { Err result ≡ at_least fault
+            (read_step run_fields event_of scheme harts (words_of text.now) self.old) }
+    {
+        match self.run_step(scheme, harts, text) {
+            Ok(_) => fault,
+            Err(other) => fault.graver(other),
+        }
     }
 }
 
@@ -132,10 +146,7 @@ pub fn run_step_among(scheme: Scheme, harts: u8, text: &str) -> Result<Event, St
     let mut parts = Parts::nothing();
     match parts.read(scheme, harts, Field::Hart, word) {
         Ok(()) => parts.run_step(scheme, harts, rest),
-        Err(fault) => match parts.run_step(scheme, harts, rest) {
-            Ok(_) => Err(fault),
-            Err(other) => Err(fault.graver(other)),
-        },
+        Err(fault) => Err(parts.run_fault(scheme, harts, fault, rest)),
     }
 }
 

@@ -242,6 +242,7 @@ impl StepName {
     }
 
     /// The name that a word is.
+    #[inline(always)]
     pub fn of(word: &[u8]) -> Option<StepName>
         ensures { result ≡ name_of word.now }
     {

@@ -36,19 +36,23 @@ pub fn worked_steps()
     ensures wide_asid { rows.wide_asid }
 {}
 
-/// Each line of `run` that no other row has.
+/// Lines of `run`, with values that are not those of an empty step.
 #[tactic(auto, using(crate::proofs::WorkedRows::line_rows))]
 pub fn worked_lines()
     ensures load_of_hart_2 { rows.load_of_hart_2 }
     ensures map_of_a_space { rows.map_of_a_space }
     ensures protect_of_the_kernel { rows.protect_of_the_kernel }
+    ensures protect_of_a_space { rows.protect_of_a_space }
+    ensures unmap_of_a_space { rows.unmap_of_a_space }
+    ensures flush_of_a_space { rows.flush_of_a_space }
+    ensures take_from_hart_6 { rows.take_from_hart_6 }
     ensures switch_of_hart_1 { rows.switch_of_hart_1 }
     ensures post_to_hart_3 { rows.post_to_hart_3 }
     ensures servefence_of_hart_3 { rows.servefence_of_hart_3 }
     ensures ack_of_hart_3 { rows.ack_of_hart_3 }
-    ensures ackself_of_hart_0 { rows.ackself_of_hart_0 }
+    ensures ackself_of_hart_2 { rows.ackself_of_hart_2 }
     ensures collect_from_hart_3 { rows.collect_from_hart_3 }
-    ensures finish_of_hart_0 { rows.finish_of_hart_0 }
+    ensures finish_of_hart_2 { rows.finish_of_hart_2 }
     ensures close_to_hart_3 { rows.close_to_hart_3 }
 {}
 
@@ -57,6 +61,7 @@ pub fn worked_lines()
 pub fn worked_faults()
     ensures no_step { rows.no_step }
     ensures no_hart { rows.no_hart }
+    ensures no_step_after_no_page { rows.no_step_after_no_page }
     ensures no_page { rows.no_page }
 {}
 
@@ -80,8 +85,10 @@ pub fn worked_live_steps()
     ensures flush_of_a_space { live.flush_of_a_space }
     ensures switch_to_a_space { live.switch_to_a_space }
     ensures fence_of_an_address { live.fence_of_an_address }
+    ensures fence_of_both { live.fence_of_both }
     ensures post_to_hart_2 { live.post_to_hart_2 }
     ensures serve_of_hart_0 { live.serve_of_hart_0 }
+    ensures serve_of_hart_5 { live.serve_of_hart_5 }
     ensures ackself_of_the_last { live.ackself_of_the_last }
     ensures collect_of_a_ticket { live.collect_of_a_ticket }
     ensures finish_of_a_ticket { live.finish_of_a_ticket }
@@ -99,6 +106,8 @@ pub fn worked_live_faults()
     ensures take_in_a_script { live.take_in_a_script }
     ensures take_in_the_setup { live.take_in_the_setup }
     ensures retire_in_a_script { live.retire_in_a_script }
+    ensures run_alone_in_a_script { live.run_alone_in_a_script }
+    ensures live_alone_in_a_run { live.live_alone_in_a_run }
     ensures wait_in_a_run { live.wait_in_a_run }
     ensures collect_without_a_hart { live.collect_without_a_hart }
     ensures unread_before_absent { live.unread_before_absent }
