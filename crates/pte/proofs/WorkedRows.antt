@@ -1,10 +1,11 @@
 -- Worked rows, computed from the definitions alone: the edges of what is canonical in each scheme,
 -- indices, sizes, and the pages that fit a scheme.
-use Rattle.std.proofs.Common.{◌≡◌, ℕ, true, false, refl}
+use Rattle.std.proofs.Common.{◌≡◌, ℕ, true, false, refl, Ok, Err}
 use Rattle.pte.specs.declared.scheme.Scheme.TheVariants.{Sv39, Sv48}
 use Rattle.pte.specs.declared.address.PageSize.{PageSize}
-use Rattle.pte.specs.declared.address.PageSize.TheVariants.{Kib4, Gib1, Gib512}
-use Rattle.pte.specs.Address.{Span, bytes_of, fits, is_canonical, level_count, page_around, pages_of, vpn_of}
+use Rattle.pte.specs.declared.address.PageSize.TheVariants.{Kib4, Mib2, Gib1, Gib512}
+use Rattle.pte.specs.declared.address.NotPage.TheVariants.{NoSuchSize, NotCanonical, Unaligned}
+use Rattle.pte.specs.Address.{Span, bytes_of, fits, is_canonical, level_count, page_around, page_at, pages_of, vpn_of}
 
 levels_39 : level_count Sv39 ≡ 3
 levels_39 = refl
@@ -97,3 +98,25 @@ small_page_in_48 = refl
 
 no_page_between : fits Sv48 (page Kib4 0x800000000000) ≡ false
 no_page_between = refl
+
+-- pages at addresses, and what is refused first
+largest_page_at_39 : page_at Sv39 0 Gib512 ≡ Err NoSuchSize
+largest_page_at_39 = refl
+
+largest_page_at_48 : page_at Sv48 0xFFFFFF8000000000 Gib512 ≡ Ok (page Gib512 0xFFFFFF8000000000)
+largest_page_at_48 = refl
+
+behind_39_at : page_at Sv39 0x4000000000 Gib1 ≡ Err NotCanonical
+behind_39_at = refl
+
+small_page_at : page_at Sv39 0x201000 Kib4 ≡ Ok (page Kib4 0x201000)
+small_page_at = refl
+
+odd_page_at : page_at Sv39 0x201000 Mib2 ≡ Err Unaligned
+odd_page_at = refl
+
+size_is_first : page_at Sv39 0x4000000001 Gib512 ≡ Err NoSuchSize
+size_is_first = refl
+
+canonical_is_next : page_at Sv39 0x4000000001 Gib1 ≡ Err NotCanonical
+canonical_is_next = refl
