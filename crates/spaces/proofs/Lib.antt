@@ -35,3 +35,4 @@ pub mod DistinctAsids
 pub mod LimitLemmas
 pub mod DefaultLimits
 pub mod PlaceTests
+mod LimitRows

@@ -1,11 +1,13 @@
 -- The limits of a configuration, and their test.
-use Rattle.std.specs.Prelude.{ℕ, ◌≡◌, ◌+◌, ◌<◌, ◌≤◌, ◌^◌, Bool, true, ◌==◌, ◌&&◌, not, nat_le, nat_lt, IsTrue, All, List, [], ◌∷◌, length}
+use Rattle.std.specs.Prelude.{ℕ, ◌≡◌, ◌+◌, ◌<◌, ◌≤◌, ◌^◌, Bool, true, ◌==◌, ◌&&◌, not, nat_le, nat_lt, IsTrue, All, List, [], ◌∷◌, length, find, Option}
 use Rattle.std.specs.List.{list_all, list_any}
 use Rattle.pte.specs.declared.TheConstants.{MAX_CAPACITY, MAX_HARTS}
 use Rattle.pte.specs.declared.entry.TheConstants.{PPN_BITS}
 use Rattle.spaces.specs.declared.configuration.Config.{Config}
 use Rattle.spaces.specs.declared.configuration.Space.{Space}
 use Rattle.spaces.specs.declared.configuration.TheConstants.{MAX_SPACES, MAX_WINDOW}
+use Rattle.spaces.specs.declared.faults.Limit.{Limit}
+use Rattle.spaces.specs.declared.faults.Limit.TheVariants as limits
 use Rattle.spaces.specs.Layout.{layout_of, frame_count}
 
 -- no space has the ASID of one after it
@@ -45,3 +47,25 @@ is_within_limits frames c =
     && (asids_differ c.spaces.items
     && (nat_le (frame_count (layout_of c)) frames
     && nat_le (c.base + frame_count (layout_of c)) (2 ^ PPN_BITS))))))))
+
+-- each limit by itself
+abbrev pub holds_limit : ℕ → Config → Limit → Bool
+holds_limit frames c limits.Harts = is_from_one MAX_HARTS c.harts
+holds_limit frames c limits.Spaces = is_from_one MAX_SPACES (length c.spaces.items)
+holds_limit frames c limits.Homes = list_all (λ s. nat_lt s.home c.harts) c.spaces.items
+holds_limit frames c limits.Asids = asids_differ c.spaces.items
+holds_limit frames c limits.Window = is_from_one MAX_WINDOW c.window
+holds_limit frames c limits.Ppns = nat_le (c.base + frame_count (layout_of c)) (2 ^ PPN_BITS)
+holds_limit frames c limits.Spares = length c.spares.items == c.harts
+holds_limit frames c limits.Frames = nat_le (frame_count (layout_of c)) frames
+holds_limit frames c limits.Capacity = is_from_one MAX_CAPACITY c.capacity
+
+-- all of them, in the order of the fields
+abbrev pub in_order : List Limit
+in_order =
+    limits.Harts ∷ limits.Spaces ∷ limits.Homes ∷ limits.Asids ∷ limits.Window ∷ limits.Ppns
+    ∷ limits.Spares ∷ limits.Frames ∷ limits.Capacity ∷ []
+
+-- the first that does not hold
+abbrev pub broken_limit : ℕ → Config → Option Limit
+broken_limit frames c = find (λ limit. not (holds_limit frames c limit)) in_order

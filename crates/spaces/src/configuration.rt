@@ -1,9 +1,10 @@
 //! What memory is opened with, and its limits.
 
-ghost use Rattle.std.specs.Prelude.{◌≡◌, ◌+◌, ◌≤◌, ◌<◌, ◌^◌, ◌↔◌, IfSome, IsTrue, None, Some, ◌==◌, All, if◌then◌else◌, length, nat_lt, slice_index, sum};
-ghost use Rattle.std.specs.List.{list_any};
-ghost use Rattle.spaces.specs.Limits.{asids_differ};
+ghost use Rattle.std.specs.Prelude.{◌≡◌, ◌+◌, ◌≤◌, ◌<◌, ◌^◌, ◌↔◌, IfSome, IsNone, IsTrue, None, Some, ◌==◌, ◌∷◌, ◌++◌, [], if◌then◌else◌, length, nat_lt, not, find, slice_index, sum};
+ghost use Rattle.std.specs.List.{list_all, list_any};
+ghost use Rattle.spaces.specs.Limits.{asids_differ, holds_limit};
 
+use crate::faults::Limit;
 use crate::places::Place;
 use arrayvec::ArrayVec;
 use pte::{PPN_LIMIT, Scheme};
@@ -24,6 +25,19 @@ pub const MAX_LIVE_FRAMES: u64 = 96;
 /// How many spare frames each hart has by default.
 pub const DEFAULT_SPARES: u16 = 8;
 
+/// The limits, in the order of the fields that they are of.
+const IN_ORDER: [Limit; 9] = [
+    Limit::Harts,
+    Limit::Spaces,
+    Limit::Homes,
+    Limit::Asids,
+    Limit::Window,
+    Limit::Ppns,
+    Limit::Spares,
+    Limit::Frames,
+    Limit::Capacity,
+];
+
 /// An address space: the hart that alone stores to its tables, and its ASID.
 #[derive(Clone, Copy, PartialEq, Eq, Debug, Default)]
 pub struct Space {
@@ -34,7 +48,7 @@ pub struct Space {
 }
 
 /// What memory is opened with.
-#[derive(Drop)]
+#[derive(Clone, Debug, Drop, PartialEq, Eq)]
 pub struct Config {
     /// The scheme of translation, which all tables have.
     pub scheme: Scheme,
@@ -82,6 +96,13 @@ fn has_asid(spaces: &[Space], asid: u16) -> bool
     spaces.iter().any(|space| space.asid == asid)
 }
 
+/// Whether all spaces have homes below this number of harts.
+fn homes_are_there(spaces: &[Space], harts: u16) -> bool
+    ensures { result ≡ list_all (λ s. nat_lt s.home harts) spaces.now }
+{
+    spaces.iter().all(|space| u16::from(space.home) < harts)
+}
+
 /// Whether no two spaces have one ASID.
 fn asids_differ(spaces: &[Space]) -> bool
     ensures { result ≡ asids_differ spaces.now }
@@ -92,11 +113,21 @@ fn asids_differ(spaces: &[Space]) -> bool
     }
 }
 
+/// The first of the limits that a configuration breaks, with at most `frames` table frames.
+fn first_broken(limits: &[Limit], config: &Config, frames: u64) -> Option<Limit>
+    ensures { result ≡ find (λ limit. not (holds_limit frames config.now limit)) limits.now }
+{
+    limits
+        .iter()
+        .copied()
+        .find(|limit| !config.holds(*limit, frames))
+}
+
 impl Config {
     ghost use Rattle.pte.specs.declared.entry.TheConstants.{PPN_BITS};
     ghost use Rattle.spaces.specs.Layout.{layout_of, frame_count, HasPlace, home_of, root_ppn, spare_ppn};
     ghost use Rattle.spaces.specs.Defaults.{default_for};
-    ghost use Rattle.spaces.specs.Limits.{is_within_limits, MeetsLimits};
+    ghost use Rattle.spaces.specs.Limits.{broken_limit, is_within_limits, MeetsLimits};
 
     /// The default for this many harts, each of which has 8 spare frames; there may be 8 harts at
     /// most.
@@ -118,12 +149,36 @@ impl Config {
         }
     }
 
+    /// The same configuration under Sv48 (privileged manual 4.5).
+    pub fn sv48(self) -> Config
+        ensures { result ≡ record self { scheme = Scheme.Sv48 } }
+    {
+        Config {
+            scheme: Scheme::Sv48,
+            ..self
+        }
+    }
+
+    /// The same configuration with one space more, as the last: its home, the number of a hart, and
+    /// its ASID (privileged manual 4.1.11). The caller sees to it that there are fewer than 32
+    /// spaces; `spaces.is_full` tells. `check` is what judges the home and the ASID.
+    pub fn space(self, home: u8, asid: u16) -> Config
+        requires { length self.spaces.items < MAX_SPACES }
+        ensures { result ≡ record self {
+          spaces = record { items = self.spaces.items ++ record { home = home; asid = asid } ∷ [] };
+        } }
+    {
+        let mut config = self;
+        config.spaces.push(Space { home, asid });
+        config
+    }
+
     /// Whether the limits hold that the fields state, with at most 512 table frames.
     pub fn check(&self) -> bool
         ensures value { result ≡ is_within_limits MAX_FRAMES self.now }
         ensures limits { IsTrue result ↔ MeetsLimits MAX_FRAMES self.now }
     {
-        self.meets_limits(MAX_FRAMES)
+        self.broken_limit().is_none()
     }
 
     /// Whether the limits hold that the fields state, with at most 96 table frames.
@@ -131,7 +186,25 @@ impl Config {
         ensures value { result ≡ is_within_limits MAX_LIVE_FRAMES self.now }
         ensures limits { IsTrue result ↔ MeetsLimits MAX_LIVE_FRAMES self.now }
     {
-        self.meets_limits(MAX_LIVE_FRAMES)
+        self.broken_live_limit().is_none()
+    }
+
+    /// The first limit, in the order of the fields, that does not hold, with at most 512 table
+    /// frames. `None` exactly if all hold, where `check` says yes.
+    pub fn broken_limit(&self) -> Option<Limit>
+        ensures first { result ≡ broken_limit MAX_FRAMES self.now }
+        ensures limits { IsNone result ↔ MeetsLimits MAX_FRAMES self.now }
+    {
+        first_broken(&IN_ORDER, self, MAX_FRAMES)
+    }
+
+    /// The first limit, in the order of the fields, that does not hold, with at most 96 table
+    /// frames. `None` exactly if all hold, where `check_live` says yes.
+    pub fn broken_live_limit(&self) -> Option<Limit>
+        ensures first { result ≡ broken_limit MAX_LIVE_FRAMES self.now }
+        ensures limits { IsNone result ↔ MeetsLimits MAX_LIVE_FRAMES self.now }
+    {
+        first_broken(&IN_ORDER, self, MAX_LIVE_FRAMES)
     }
 
     /// The number of table frames.
@@ -194,36 +267,19 @@ impl Config {
         }
     }
 
-    fn homes_are_there(&self) -> bool
-        ensures { IsTrue result ↔ All (λ s. s.home < self.now.harts) self.now.spaces.items }
+    fn holds(&self, limit: Limit, frames: u64) -> bool
+        ensures { result ≡ holds_limit frames self.now limit }
     {
-        self.spaces
-            .iter()
-            .all(|space| u16::from(space.home) < self.harts)
-    }
-
-    /// Whether there are at most `frames` frames, and their PPNs are below 2^44.
-    fn frames_fit(&self, frames: u64) -> bool
-        requires { frames ≤ MAX_FRAMES }
-        ensures { IsTrue result ↔ (frame_count (layout_of self.now) ≤ frames)
-            × (self.now.base + frame_count (layout_of self.now) ≤ 2 ^ PPN_BITS) }
-    {
-        let count = self.frame_count();
-        count <= frames && self.base <= PPN_LIMIT - count
-    }
-
-    fn meets_limits(&self, frames: u64) -> bool
-        requires { frames ≤ MAX_FRAMES }
-        ensures { IsTrue result ↔ MeetsLimits frames self.now }
-    {
-        let spaces = self.spaces.len();
-        (1..=MAX_HARTS).contains(&usize::from(self.harts))
-            && 1 <= spaces
-            && (1..=MAX_WINDOW).contains(&self.window)
-            && (1..=MAX_CAPACITY).contains(&self.capacity)
-            && self.spares.len() == usize::from(self.harts)
-            && self.homes_are_there()
-            && asids_differ(&self.spaces)
-            && self.frames_fit(frames)
+        match limit {
+            Limit::Harts => (1..=MAX_HARTS).contains(&usize::from(self.harts)),
+            Limit::Spaces => (1..=MAX_SPACES).contains(&self.spaces.len()),
+            Limit::Homes => homes_are_there(&self.spaces, self.harts),
+            Limit::Asids => asids_differ(&self.spaces),
+            Limit::Window => (1..=MAX_WINDOW).contains(&self.window),
+            Limit::Ppns => self.base.saturating_add(self.frame_count()) <= PPN_LIMIT,
+            Limit::Spares => self.spares.len() == usize::from(self.harts),
+            Limit::Frames => self.frame_count() <= frames,
+            Limit::Capacity => (1..=MAX_CAPACITY).contains(&self.capacity),
+        }
     }
 }

@@ -1,4 +1,5 @@
-//! Why memory is not opened, and why a page is not mapped, unmapped or protected.
+//! Why memory is not opened, which limits a configuration has, and why a page is not mapped,
+//! unmapped or protected.
 
 use std::alloc::AllocError;
 use thiserror::Error;
@@ -9,7 +10,7 @@ pub enum OpenFault {
     /// There was no memory for what is opened.
     #[error("out of memory")]
     NoMemory,
-    /// `Config::check` says no.
+    /// `Config::check` says no. `Config::broken_limit` tells which limit does not hold.
     #[error("the configuration is not within the limits")]
     BadLayout,
 }
@@ -23,6 +24,39 @@ impl From<AllocError> for OpenFault {
     fn from(_error: AllocError) -> OpenFault {
         OpenFault::NoMemory
     }
+}
+
+/// A limit of a configuration, of those in the order of its fields. As an error it says what is
+/// beyond the limit.
+#[derive(Clone, Copy, PartialEq, Eq, Debug, Error)]
+pub enum Limit {
+    /// There are 1 to 8 harts.
+    #[error("the number of harts is not from 1 to 8")]
+    Harts,
+    /// There are 1 to 32 spaces.
+    #[error("the number of spaces is not from 1 to 32")]
+    Spaces,
+    /// The home of each space is below the number of harts.
+    #[error("the home of a space is none of the harts")]
+    Homes,
+    /// Each space has an ASID of its own.
+    #[error("two spaces have the same ASID")]
+    Asids,
+    /// The kernel window has 1 to 4 slots.
+    #[error("the number of slots of the kernel window is not from 1 to 4")]
+    Window,
+    /// The PPNs of all table frames are below 2^44.
+    #[error("the PPN of a table frame is 2^44 or more")]
+    Ppns,
+    /// There is one number of spare frames for each hart.
+    #[error("there is not one number of spare frames for each hart")]
+    Spares,
+    /// There are at most 512 table frames, and at most 96 for harts on threads.
+    #[error("there are more than 512 table frames, or more than 96 for harts on threads")]
+    Frames,
+    /// The capacity of each mailbox is from 1 to 64.
+    #[error("the capacity of the mailboxes is not from 1 to 64")]
+    Capacity,
 }
 
 /// Why an edit is refused, in the order in which the tests are made: first what the call says, then

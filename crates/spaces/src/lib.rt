@@ -24,7 +24,7 @@ pub use edit_walk_laws::{
 };
 pub use edit_walks::{EditWalk, Next};
 pub use edits::{Edit, apply, next_edit, next_map_edit, protect_edit, unmap_edit};
-pub use faults::{MapFault, OpenFault};
+pub use faults::{Limit, MapFault, OpenFault};
 pub use frames::{Memory, first_words};
 pub use laws::{
     defaults_meet_the_limits, edit_changes_its_page, edit_is_accepted, edit_keeps_tree,

@@ -1,5 +1,5 @@
-use Rattle.spaces.proofs.LimitLemmas.{checked_is}
+use Rattle.spaces.proofs.LimitLemmas.{tested_is}
 use Rattle.spaces.proofs.configuration.Config.check.Goals as goal
 
 pub returns-clause-value : goal.returns-clause-value
-returns-clause-value c = checked_is _ c.args.self.now _ c.meets_limits.ensures
+returns-clause-value c = tested_is _ c.args.self.now _ _ c.is_none.ensures c.broken_limit.ensures.limits
