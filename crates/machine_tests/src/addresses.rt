@@ -158,10 +158,13 @@ fn bases_of_pages(rt: HostRuntime) {
     assert_row(&rt, 3, has_base(va, PageSize::Gib512, 0x80_0000_0000));
 }
 
-/// Whether the page with this base fits each scheme as `in_39` and `in_48` say.
+/// Whether the page with this base fits each scheme as `in_39` and `in_48` say, and is made there.
 fn fits_as(base: VirtAddr, size: PageSize, in_39: bool, in_48: bool) -> bool {
     let page = Page::around(base, size);
-    page.base() == base && page.fits(Scheme::Sv39) == in_39 && page.fits(Scheme::Sv48) == in_48
+    let narrow = Page::at(Scheme::Sv39, base.get(), size);
+    let wide = Page::at(Scheme::Sv48, base.get(), size);
+    let fits = page.fits(Scheme::Sv39) == in_39 && page.fits(Scheme::Sv48) == in_48;
+    page.base() == base && fits && narrow.is_ok() == in_39 && wide.is_ok() == in_48
 }
 
 const FITTING: [(u64, PageSize, bool, bool); 12] = [

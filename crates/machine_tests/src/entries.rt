@@ -192,6 +192,7 @@ const OF_USER_MODE: [Permitted; 10] = [
 #[test]
 fn permissions_of_user_mode(rt: HostRuntime) {
     are_permitted(&rt, &OF_USER_MODE);
+    assert!(rt; Ctx::user() == USER);
 }
 
 const OF_SUPERVISOR_MODE: [Permitted; 12] = [
@@ -213,6 +214,7 @@ const OF_SUPERVISOR_MODE: [Permitted; 12] = [
 #[test]
 fn permissions_of_supervisor_mode(rt: HostRuntime) {
     are_permitted(&rt, &OF_SUPERVISOR_MODE);
+    assert!(rt; Ctx::supervisor() == SUPER);
 }
 
 fn has_causes(access: Access, page: u8, outside: u8) -> bool {

@@ -1,7 +1,7 @@
 //! What faults and traps are printed as.
 
 use crate::common::{address, assert_row, flags};
-use pte::{LeafFault, Page, PageSize, Pte};
+use pte::{LeafFault, NotPage, Page, PageSize, Pte, Scheme};
 use std::alloc::Global;
 use std::error::Error;
 use std::process::Abort;
@@ -36,6 +36,45 @@ fn faults_of_pages(rt: HostRuntime) {
         .expect(&rt, "a fault");
     let text = "the address is no multiple of the page's size";
     assert!(rt; is_told(&rt, rt.alloc(), &unaligned, text));
+}
+
+/// An address and a size of Sv39, and why there is no page: the first reason of those that apply.
+const NO_PAGES: [(u64, PageSize, NotPage, &str); 4] = [
+    (
+        0,
+        PageSize::Gib512,
+        NotPage::NoSuchSize,
+        "the scheme has no pages of this size",
+    ),
+    (
+        0x40_0000_0001,
+        PageSize::Gib512,
+        NotPage::NoSuchSize,
+        "the scheme has no pages of this size",
+    ),
+    (
+        0x40_0000_0001,
+        PageSize::Gib1,
+        NotPage::NotCanonical,
+        "the address is not canonical in the scheme",
+    ),
+    (
+        0x20_1000,
+        PageSize::Mib2,
+        NotPage::Unaligned,
+        "the address is no multiple of the page's size",
+    ),
+];
+
+#[test]
+fn faults_of_pages_of_a_scheme(rt: HostRuntime) {
+    for (number, (va, size, why, text)) in NO_PAGES.iter().enumerate() {
+        let fault = Page::at(Scheme::Sv39, *va, *size)
+            .err()
+            .expect(&rt, "a fault");
+        assert_row(&rt, number, fault == *why);
+        assert_row(&rt, number, is_told(&rt, rt.alloc(), &fault, text));
+    }
 }
 
 const TRAPS: [(u8, Why, &str); 9] = [

@@ -1,41 +1,22 @@
 //! A machine of two harts: hart 0 maps a page and unmaps it again, and hart 1, which has used it,
 //! drops it when it is asked.
 
-use arrayvec::ArrayVec;
-use pte::{Access, Ctx, Mode, Page, PageSize, PteFlags, Scheme, VirtAddr};
+use pte::{Access, Ctx, Page, PageSize, PteFlags, Scheme};
 use std::test::Fail;
-use stepcore::{Config, Event, Machine, Place, Reply, Space};
+use stepcore::{Config, Event, Machine, Place, Reply};
 
 /// Two harts, and one address space with ASID 1, whose tables hart 0 alone changes.
 pub fn two_harts() -> Config {
-    let mut spaces = ArrayVec::new();
-    spaces.push(Space { home: 0, asid: 1 });
-    let mut spares = ArrayVec::new();
-    spares.push(8);
-    spares.push(8);
-    Config {
-        scheme: Scheme::Sv39,
-        harts: 2,
-        spaces,
-        window: 1,
-        base: 0x8_0000,
-        spares,
-        capacity: 4,
-    }
+    Config::with_harts(2)
 }
 
 /// A user's program on hart 1 begins to load from an address.
 pub fn hart_1_loads(va: u64) -> Event {
-    let ctx = Ctx {
-        mode: Mode::User,
-        sum: false,
-        mxr: false,
-    };
     Event::Begin {
         hart: 1,
         va,
         access: Access::Load,
-        ctx,
+        ctx: Ctx::user(),
     }
 }
 
@@ -72,21 +53,18 @@ pub const ASKED_AND_ACKNOWLEDGED: [Event; 4] = [
     Event::Ack { hart: 1 },
 ];
 
-/// Whether the TLB of hart 1 has a translation. `translates` needs a hart that exists.
-pub fn hart_1_holds(machine: &Machine, va: VirtAddr) -> bool {
-    machine.harts() > 1 && machine.translates(1, 1, va)
+/// Whether the TLB of hart 1 translates a page. `translates` needs a hart that exists.
+pub fn hart_1_holds(machine: &Machine, page: Page) -> bool {
+    machine.harts() > 1 && machine.translates(1, 1, page.base())
 }
 
 #[test]
 fn page_is_held_until_it_is_acknowledged(rt: HostRuntime) -> Result<(), Fail> {
-    let (Some(va), Ok(mut machine)) = (
-        VirtAddr::new(0x40_0000),
+    let (Ok(page), Ok(mut machine)) = (
+        Page::at(Scheme::Sv39, 0x40_0000, PageSize::Mib2),
         Machine::open(rt.alloc(), &two_harts()),
     ) else {
-        return Err(Fail::new("no address, or no machine"));
-    };
-    let Ok(page) = Page::new(va, PageSize::Mib2) else {
-        return Err(Fail::new("no page"));
+        return Err(Fail::new("no page, or no machine"));
     };
     assert!(rt; machine.step(map(page)) == Reply::Table(0x8_0002));
     assert!(rt; machine.step(map(page)) == Reply::Leaf);
@@ -94,10 +72,10 @@ fn page_is_held_until_it_is_acknowledged(rt: HostRuntime) -> Result<(), Fail> {
     assert!(rt; machine.step(Event::Load { hart: 1 }) == Reply::More);
     assert!(rt; machine.step(Event::Load { hart: 1 }) == Reply::Filled(0x20_0123));
     assert!(rt; machine.step(unmap(page)) == Reply::Opened(0));
-    assert!(rt; hart_1_holds(&machine, va));
+    assert!(rt; hart_1_holds(&machine, page));
     let mut replies = Vec::new(rt.alloc());
     machine.run(&ASKED_AND_ACKNOWLEDGED, &mut replies)?;
     assert!(rt; replies.as_slice().last() == Some(&Reply::Ok));
-    assert!(rt; !hart_1_holds(&machine, va));
+    assert!(rt; !hart_1_holds(&machine, page));
     Ok(())
 }

@@ -3,8 +3,8 @@
 use super::{Layout, ONE_HART, TWO_HARTS, config_of};
 use crate::common::assert_row;
 use pte::Scheme;
-use spaces::{Config, MapFault, Memory, OpenFault, Space};
-use std::alloc::Global;
+use spaces::{Config, Limit, MapFault, Memory, OpenFault, Space};
+use std::alloc::{AllocError, Global};
 
 /// Whether a memory of this configuration is opened, as it is within the limits; `None` if there is
 /// no room for it.
@@ -268,6 +268,33 @@ fn frames_of_a_live_machine(rt: HostRuntime) {
     assert!(rt; is_live(&[94]) && !is_live(&[95]));
 }
 
+/// The first limit that a configuration breaks, in the order of its fields.
+#[test]
+fn limits_are_told(rt: HostRuntime) {
+    let two_spaces = Config::with_harts(2).sv48().space(1, 2);
+    assert!(rt; two_spaces.scheme == Scheme::Sv48 && two_spaces.broken_limit() == None);
+    let spaces = [Space { home: 0, asid: 1 }, Space { home: 1, asid: 2 }];
+    assert!(rt; two_spaces.spaces.as_slice() == &spaces[..]);
+    let no_such_home = Config::with_harts(2).space(2, 1);
+    assert!(rt; no_such_home.broken_limit() == Some(Limit::Homes));
+    let one_asid = Config::with_harts(2).space(1, 1);
+    assert!(rt; one_asid.broken_limit() == Some(Limit::Asids));
+    assert!(rt; Config::with_harts(9).broken_limit() == Some(Limit::Harts));
+    let many = config_of(&Layout {
+        spares: &[95],
+        ..ONE_HART
+    });
+    assert!(rt; many.broken_live_limit() == Some(Limit::Frames) && many.broken_limit() == None);
+    assert!(rt; Config::with_harts(8).broken_live_limit() == None);
+}
+
+#[test]
+fn copies_are_equal(rt: HostRuntime) -> Result<(), AllocError> {
+    let config = Config::with_harts(2).space(1, 2);
+    assert!(rt; config.clone()? == config && config != Config::with_harts(2));
+    Ok(())
+}
+
 /// The default has the numbers that a file gets that leaves each key out.
 #[test]
 fn numbers_of_the_default(rt: HostRuntime) {
@@ -291,4 +318,7 @@ fn faults_are_told(rt: HostRuntime) {
     let wanted = "no spare frame of the home is left; the PPN is no multiple of the page's size; \
                   the configuration is not within the limits";
     assert!(rt; told.as_str() == wanted);
+    let limit = Limit::Asids;
+    let told = format!(in alloc; "{limit}").expect(&rt, "memory");
+    assert!(rt; told.as_str() == "two spaces have the same ASID");
 }
