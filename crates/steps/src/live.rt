@@ -53,6 +53,7 @@ impl Parts {
         let (space, ticket, other) = (self.space, self.ticket, self.other);
         let (scope, named, rs1, rs2) = (self.scope, self.named, self.rs1, self.rs2);
         let (va, access, ctx) = (self.va, self.access, self.ctx);
+        // Each arm returns, so that the step is written in place.
         match name {
             StepName::Translate => return Ok(LiveStep::Translate { va, access, ctx }),
             StepName::Map => return self.live_map(),

@@ -68,6 +68,7 @@ impl Parts {
         let (hart, space, ticket, other) = (self.hart, self.space, self.ticket, self.other);
         let (scope, named, rs1, rs2) = (self.scope, self.named, self.rs1, self.rs2);
         let asid = self.asid;
+        // Each arm returns, so that the event is written in place (45 instructions less a step).
         match name {
             StepName::Begin => return self.begin(),
             StepName::Load => return Ok(Event::Load { hart }),
