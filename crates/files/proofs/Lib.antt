@@ -1,3 +1,4 @@
+pub mod DefaultLemmas
 pub mod EachLemmas
 pub mod KeyLemmas
 pub mod StepLemmas

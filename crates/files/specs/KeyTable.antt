@@ -1,5 +1,5 @@
 -- The table of keys: the name of each, the commands that know it, and what its value is.
-use Rattle.std.specs.Prelude.{ℕ, ◌-◌, ◌^◌, ◌++◌, ◌&&◌, Bool, nat_le, nat_lt, not, true, false, codes, List, [], ◌∷◌, map, Some, None}
+use Rattle.std.specs.Prelude.{ℕ, ◌-◌, ◌^◌, ◌++◌, ◌&&◌, Bool, nat_le, nat_lt, not, true, false, codes, List, [], ◌∷◌, map, Option, Some, None}
 use Rattle.std.specs.List.{list_any}
 use Rattle.std.specs.Str.{bytes_eq}
 use Rattle.pte.specs.declared.TheConstants.{MAX_CAPACITY, MAX_HARTS}
@@ -98,3 +98,12 @@ is_within kinds.Scheme n = false
 is_within kinds.Spares n = false
 is_within kinds.Texts n = false
 is_within kinds.Scripts n = false
+
+-- the number that stands for a value of this kind that is left out
+abbrev pub default_of : Kind → Option ℕ
+default_of (kinds.Whole least most default) = Some default
+default_of (kinds.Ppn limit default) = Some default
+default_of kinds.Scheme = None
+default_of kinds.Spares = None
+default_of kinds.Texts = None
+default_of kinds.Scripts = None

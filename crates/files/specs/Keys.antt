@@ -11,7 +11,7 @@ use Rattle.toml.specs.Data.{Data, as_str, as_array, Items, no_items, item, Membe
 use Rattle.steps.specs.Num.{num_of}
 use Rattle.steps.specs.Words.{words_of}
 use Rattle.files.specs.Faults.{Failure, wrong_key}
-use Rattle.files.specs.KeyTable.{name_of}
+use Rattle.files.specs.KeyTable.{default_of, kind_of, name_of}
 use Rattle.files.specs.declared.key_table.Key.{Key}
 
 -- ---- unknown keys
@@ -67,6 +67,11 @@ value_or key default read (Some d) = ok_or (read d) (wrong_value key)
 
 abbrev pub value_at : {X : Type 0} → Key → X → (Data → Option X) → Members → Result X Failure
 value_at key default read ms = value_or key default read (member_of key ms)
+
+-- what is read at a key is the default of its row of the table where the key is absent
+abbrev pub IsDefaultIfAbsent : Key → Members → Result ℕ Failure → Type 0
+IsDefaultIfAbsent key ms read =
+    member_of key ms ≡ None → option_map Ok (default_of (kind_of key)) ≡ Some read
 
 -- each of them, or nothing where there is one that f refuses
 abbrev pub each : {X Y : Type 0} → (X → Option Y) → List X → Option (List Y)

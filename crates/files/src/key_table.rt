@@ -1,4 +1,4 @@
-//! The table of keys: the name of each, the commands that know it, and what its value is.
+//! The table of keys: the name of each, the kinds of files that have it, and what its value is.
 ghost use Rattle.std.specs.Prelude.{◌≡◌, map};
 ghost use Rattle.files.specs.Keys.{is_known};
 ghost use Rattle.files.specs.declared.key_table.Kind.TheVariants as kinds;
@@ -7,7 +7,7 @@ ghost use Rattle.files.specs.KeyTable.{command_name, keys_of, kind_of, name_of, 
 use pte::PPN_LIMIT;
 use spaces::{Config, MAX_CAPACITY, MAX_HARTS, MAX_WINDOW};
 
-/// The commands that read a file.
+/// The kinds of files, each named by the command that plays it.
 #[derive(Clone, Copy, Debug, PartialEq, Eq)]
 pub enum Command {
     Walk,
@@ -18,19 +18,32 @@ pub enum Command {
 /// A key of a file.
 #[derive(Clone, Copy, Debug, PartialEq, Eq)]
 pub enum Key {
+    /// How many harts there are.
     Harts,
+    /// How many slots at the end of each root are the kernel's.
     Window,
+    /// The PPN of the first table frame.
     Base,
+    /// How many requests of one hart to another may be accepted and not yet collected.
     Capacity,
+    /// The spare frames of each hart, for new tables.
     Spares,
+    /// The hart that stores to the tables of each address space, and its ASID.
     Spaces,
+    /// The PPN of the root table.
     Root,
+    /// The PPNs of the table frames.
     Frames,
+    /// The words of the table frames; all others are 0.
     Words,
     Steps,
+    /// The steps that are made before the harts run.
     Setup,
+    /// The steps of each hart.
     Scripts,
+    /// The most turns of a wait, and of a hart whose script has ended.
     Turns,
+    /// The scheme of virtual addresses.
     Mode,
 }
 

@@ -25,10 +25,10 @@ pub use fault::Fault;
 pub use format_laws::{first_wrong_step, worked_turns};
 pub use frames::TableFrames;
 pub use key_laws::{
-    least_unknown_key, limits_are_those_of_the_table, mode_is_sv39_by_default,
-    own_keys_are_of_one_command, worked_modes,
+    defaults_are_those_of_the_table, least_unknown_key, limits_are_those_of_the_table,
+    mode_is_sv39_by_default, own_keys_are_of_one_command, worked_modes,
 };
-pub use key_table::{Command, Key, Kind, MOST_KEYS};
+pub use key_table::{Command, DEFAULT_TURNS, Key, Kind, MOST_KEYS};
 pub use limits::{MOST_FRAMES, MOST_STEPS};
 pub use live_file::{live_scenario_in, read_live};
 pub use plan::{LiveScenario, RunScenario, WalkScenario};
