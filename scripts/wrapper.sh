@@ -106,6 +106,9 @@ on_terminal() { script -qec "'$svsim' $1" /dev/null </dev/null 2>&1 | tr -d '\r'
 helps() { judge "$1 on a terminal" "svsim: $3" "$(on_terminal "$2")"; }
 helps 'a slip of run' "rnu $own/file.toml" 'perhaps svsim run; svsim help lists the commands'
 helps 'a slip of help' hlep 'perhaps svsim help; svsim help lists the commands'
+helps 'a slip of two letters' "rnuu $own/file.toml" 'perhaps svsim run; svsim help lists the commands'
+helps 'two letters exchanged, and one more' "ilvex $own/file.toml" 'svsim help lists the commands'
+helps 'a letter of run' "r $own/file.toml" 'perhaps svsim run; svsim help lists the commands'
 helps 'no command at all' "xyzzyq $own/file.toml" 'svsim help lists the commands'
 helps 'a command without a file' run 'svsim help lists the commands'
 helps 'no file' "run $own/none" 'no such file'
@@ -119,6 +122,26 @@ helps 'a fault of draw' "draw $own/file.toml" "svsim check $own/file.toml lists 
 helps 'a fault of walk' "walk $own/walk.toml" "svsim check $own/walk.toml lists all faults"
 helps 'a file of walk' "stale $own/walk.toml" 'a file for walk: use walk'
 helps 'a file of live' "draw $own/live.toml" 'a file for live: use live'
+suits() {
+    printf '%s\n' "$2" >"$own/key.toml"
+    helps "a file with $2" "draw $own/key.toml" "$([ "$1" = run ] && echo "svsim check $own/key.toml lists all faults" || echo "a file for $1: use $1")"
+}
+for key in setup scripts turns; do
+    suits live "$key = 0"
+    suits live "\"$key\" = 0"
+done
+for key in root frames words; do
+    suits walk "$key = 0"
+    suits walk " '$key'=0"
+done
+suits live '[setup]'
+suits live '[[ "scripts" ]] # none'
+suits live 'turns.most = 0'
+suits walk '[words.more]'
+suits run 'harts = 2 # turns = 0'
+suits run 'turn = 0'
+suits run '"turns = 0"'
+suits run '["words", "frames"]'
 helps 'a file of run' "walk $own/file.toml" 'a file for run: use run, stale, show or draw'
 helps 'a trace' "run $own/run.trace" 'a trace: use watch'
 helps 'a file that is no trace' "watch $own/file.toml" 'a file for run: use run, stale, show or draw'
