@@ -6,8 +6,11 @@
 - Sources: a block ```rust, ```c or ```antt is a text of one source file, of which `..` stands for what is left out.
 - Links: each file and each heading that a page of the repository links to is there.
 - Help: of each command the wrapper ./svsim and PROGRAM tell the same, and both list the commands alike. PROGRAM has CHANGELOG's version.
-- Formats: docs/FORMAT.md has the keys, the steps and the refusals of the code, each where it belongs, and no others; of keys their order, and
-  of numbers the limits that PROGRAM tells and the defaults of the code.
+- Wrapper: the keys by which ./svsim tells files apart are the code's.
+- Formats: docs/FORMAT.md has the keys, the steps, the words of steps and the refusals of the code, each where it belongs, and no others. Keys
+  have the code's order, types, limits and defaults, and whole numbers the limits that PROGRAM tells. Words of steps have the signs that the
+  code reads and the bounds of its numbers; the rest of their cells is not compared, nor are replies, and of other tables the numbers in LIMITS
+  alone.
 - Sizes: README's words and lines, and the bytes of the pages for users.
 
 The last line is `N passed, M failed`.
@@ -19,6 +22,41 @@ MOST_WORDS, MOST_LINES, MOST_BYTES = 900, 115, 75 * 1024
 NOT_FOR_USERS = ("docs/dev/", "docs/DECISIONS.md", "docs/PERF.md")
 SECONDS = 60
 KEY_TABLE = "crates/files/src/key_table.rt"
+CONFIGURATION = "crates/spaces/src/configuration.rt"
+CRATES = ("pte", "shoot", "spaces", "files")  # with the constants of FORMAT
+# How FORMAT names the type of a key, by the code's kind of it.
+TYPES = {
+    "Whole": r"whole number, \d+ to \d+:",
+    "Ppn": r"text: the .*\bPPN\b",
+    "Scheme": r"text `\w+` or `\w+`",
+    "Spares": r"whole numbers, one a hart:",
+    "Texts": r"(1 to [\d,]+ |at most [\d,]+ )?texts\b",
+    "Scripts": r"an array of texts for each hart,",
+}
+# Where FORMAT tells a number of the code, how often, and the constant that it is.
+LIMITS = (
+    (r"\| `spaces` \| 1 to ([\d,]+) texts", 1, "MAX_SPACES"),
+    (r"\| `frames` \| at most ([\d,]+) texts", 1, "MOST_FRAMES"),
+    (r"\| `steps` \| at most ([\d,]+) texts", 2, "MOST_STEPS"),
+    (r"\| `words` \| .* at an index, below ([\d,]+),", 1, "TABLE_LENGTH"),
+    (r"\| `spares` \| .* \| (\d+) for each hart \|", 1, "DEFAULT_SPARES"),
+    (r"Table memory is at most ([\d,]+) frames from", 1, "MAX_FRAMES"),
+    (r"frames from `base` on, below PPN 2\^(\d+)\.", 1, "PPN_BITS"),
+    (r"the PPN has more than (\d+) bits", 1, "PPN_BITS"),
+    (r"all (\d+) tickets of the hart", 1, "MAX_TICKETS"),
+    (r"Setup and scripts have at most ([\d,]+) steps together", 1, "MOST_STEPS"),
+    (r"steps together, tables (\d+) frames", 1, "MAX_LIVE_FRAMES"),
+    (r"for a root or a frame 2\^(\d+) or more", 1, "PPN_BITS"),
+    (r"More than (\d+) `spaces`, ", 1, "MAX_SPACES"),
+    (r"`spaces`, (\d+) `spares` or", 1, "MAX_HARTS"),
+    (r"`spares` or ([\d,]+) `frames`", 1, "MOST_FRAMES"),
+    (r"More than ([\d,]+) frames \(", 1, "MAX_FRAMES"),
+    (r" frames \((\d+) of `live`\)", 1, "MAX_LIVE_FRAMES"),
+    (r"one at PPN 2\^(\d+) or above", 1, "PPN_BITS"),
+    (r"\| `too many steps` \| more than ([\d,]+) \|", 1, "MOST_STEPS"),
+)
+# What a step's word is where FORMAT has no row for it: the number of a hart, an address or a PPN.
+PLAIN_LABELS = {"H", "VA", "ADDRESS", "PPN", "FROM", "TO"}
 
 
 def tracked(*patterns):
@@ -188,13 +226,57 @@ def key_lists():
         yield [names[key] for key in re.findall(r"Key::(\w+)", keys)]
 
 
-def number_of(expression):
-    """The number that an expression of the code's table is: a field of the default configuration, or a constant."""
-    field = re.search(r"default\.(\w+)", expression)
+def value(expression):
+    """The number that an expression of the code is: digits, a constant, 1 << such a number, or a field of the default configuration."""
+    word = re.sub(r"u\d+::from\((.*)\)", r"\1", re.sub(r" as \w+$", "", expression.strip()))
+    if re.fullmatch(r"\d\w*", word):
+        return int(word, 0)
+    if word == "u32::MAX":
+        return 2**32 - 1
+    if word.startswith("1 << "):
+        return 1 << value(word[5:])
+    field = re.fullmatch(r"default\.(\w+)", word)
     if field:
         wanted = r"Config::with_harts\((\w+)\)" if field[1] == "harts" else rf"\b{field[1]}: (\d\w*),"
-        return int(re.search(wanted, text_of("crates/spaces/src/configuration.rt"))[1], 0)
-    return int(re.search(rf"const {expression}: \w+ = (\w+);", text_of(KEY_TABLE))[1])
+        return int(re.search(wanted, text_of(CONFIGURATION))[1], 0)
+    for path in tracked(*(f"crates/{crate}/src/*.rt" for crate in CRATES)):
+        constant = re.search(rf"(?m)^pub const {word}: \w+ = (?!\w+::)(.*);", text_of(path))
+        if constant:
+            return value(constant[1])
+    raise ValueError(f"no number: {expression}")
+
+
+def kinds():
+    """The kind of each key in the code's table, with the numbers that belong to it."""
+    table = text_of(KEY_TABLE)
+    names = dict(re.findall(r'Key::(\w+) => "(\w+)"', table))
+    arms = re.search(r"pub fn kind\(self\).*?match self \{\n(.*?)\n {8}\}", table, re.S)[1]
+    found = {}
+    for keys, made in re.findall(r"((?:Key::\w+(?: \| )?)+) => (.*?),(?=\s*Key::|$)", arms, re.S):
+        whole, ppn = re.fullmatch(r"from_one\((.*), (.*)\)", made), re.fullmatch(r"ppn\((.*), (.*)\)", made)
+        if whole:
+            kind = "Whole", (1, value(whole[1])), value(whole[2])
+        elif ppn:
+            limit = re.fullmatch(r"Some\((.*)\)", ppn[1])
+            kind = "Ppn", value(limit[1]) if limit else None, value(ppn[2])
+        else:
+            kind = made.removeprefix("Kind::"), None, None
+        found.update((names[key], kind) for key in re.findall(r"Key::(\w+)", keys))
+    return found
+
+
+def own_keys(command):
+    """The keys of one command alone, by the code's table."""
+    table = text_of(KEY_TABLE)
+    names = dict(re.findall(r'Key::(\w+) => "(\w+)"', table))
+    return [names[key] for key in re.findall(r"Key::(\w+)", re.search(rf"Command::{command} => &\[([^]]*)\]", table)[1])]
+
+
+def check_wrapper():
+    for command in ("Live", "Walk"):
+        listed = re.search(rf"(?m)^{command.lower()}_keys='([\w|]*)'$", text_of("svsim"))
+        yield bool(listed) and listed[1].split("|") == own_keys(command), f"svsim has other keys of {command.lower()} alone than the code"
+    yield own_keys("Run") == [], "svsim has no keys of run alone, and the code has"
 
 
 def check_keys(program):
@@ -208,35 +290,104 @@ def check_keys(program):
     yield first + ["steps", "mode"] == run and first + own + ["mode"] == live, "FORMAT has the keys in another order than the code"
     alone = re.search(r"`live` if it has (.*?), else `walk` if it has (.*?), else `run`", text_of("docs/FORMAT.md"))
     own = [re.findall(r"`(\w+)`", part) for part in alone.groups()]
-    others = [[key for key in mine if key not in run + theirs] for mine, theirs in ((live, walk), (walk, live))]
-    yield own == others, "FORMAT has other keys of one command than the code"
-    yield from check_numbers(program)
+    yield own == [own_keys("Live"), own_keys("Walk")], "FORMAT has other keys of one command than the code"
+    yield from check_values(program, set(run + live + walk))
 
 
-def check_numbers(program):
-    """The limits of whole numbers are those that the program tells, and the default of each number is that of the code's table."""
-    kinds = dict(re.findall(r"Key::(\w+) => (?:from_one|ppn)\(.*, ([^,]*)\),", text_of(KEY_TABLE)))
-    defaults = {key.lower(): number_of(default) for key, default in kinds.items()}
-    wholes = [key.lower() for key in re.findall(r"Key::(\w+) => from_one", text_of(KEY_TABLE))]
-    limited = []
+def check_values(program, keys):
+    """Each key's type, limits and default are those of the code's table; the limits of whole numbers are those that the program tells too."""
+    of_code = kinds()
+    yield set(of_code) == keys, "the code's table has kinds of other keys"
     for command in ("run", "live", "walk"):
-        for cell, value, default in rows(f"A file for `{command}`", "key"):
-            key, limits = cell.strip("`"), re.match(r"whole number, (\d+) to (\d+)", value)
-            if limits:
-                limited.append(key)
+        for cell, told, default in rows(f"A file for `{command}`", "key"):
+            key = cell.strip("`")
+            if key not in of_code:
+                continue
+            kind, limit, number = of_code[key]
+            of_key = f"{key} of {command}"
+            has_type = bool(re.match(TYPES[kind], told))
+            yield has_type, f"FORMAT has another type of {of_key} than the code"
+            if not has_type:
+                continue
+            yield default.strip("`") in defaults(key, kind, number), f"FORMAT has another default of {of_key} than the code"
+            if kind == "Whole":
+                least, most = map(int, re.search(r"(\d+) to (\d+)", told).groups())
+                yield (least, most) == limit, f"FORMAT has other limits of {of_key} than the code"
                 with tempfile.NamedTemporaryFile("w", suffix=".toml") as file:
                     file.write(f'{key} = "x"\n')
                     file.flush()
                     printed = printed_by(program, "check", file.name)
-                yield f"a whole number from {limits[1]} to {limits[2]} is expected" in printed, f"FORMAT has other limits of {key} than the program"
-            if key in defaults:
-                yield int(default.strip("`\""), 0) == defaults.pop(key), f"FORMAT has another default of {key} than the code"
-    yield sorted(limited) == sorted(wholes), "FORMAT has limits of other keys than the code"
-    yield not defaults, f"FORMAT has no default of {', '.join(defaults)}"
+                yield f"a whole number from {least} to {most} is expected" in printed, f"FORMAT has other limits of {of_key} than the program"
+            if kind == "Ppn":
+                bits = re.search(r"\bbelow 2\^(\d+)$", told)
+                yield (1 << int(bits[1]) if bits else None) == limit, f"FORMAT has another limit of {of_key} than the code"
+            if kind == "Scheme":
+                named = re.findall(r'word == b"(\w+)"', text_of("crates/files/src/settings.rt"))
+                yield re.findall(r"`(\w+)`", told) == named, f"FORMAT has other schemes at {of_key} than the code"
+
+
+def defaults(key, kind, number):
+    """How the default of a key may be written."""
+    if kind == "Whole":
+        return [str(number)]
+    if kind == "Ppn":
+        return [f'"{number:#x}"']
+    configuration = text_of(CONFIGURATION)
+    if kind == "Scheme":
+        return ['"{}"'.format(re.search(r"scheme: Scheme::(\w+),", configuration)[1].lower())]
+    if kind == "Spares":
+        return [f"{value('DEFAULT_SPARES')} for each hart"]
+    if key == "spaces":
+        return ['["{} {}"]'.format(*re.search(r"spaces\.push\(Space \{ home: (\d+), asid: (\d+) \}\)", configuration).groups())]
+    return ["[]"]
+
+
+def check_limits():
+    """The numbers that FORMAT tells elsewhere are the code's constants."""
+    for pattern, count, constant in LIMITS:
+        told = re.findall(pattern, text_of("docs/FORMAT.md"))
+        yield [int(each.replace(",", "")) for each in told] == [value(constant)] * count, f"FORMAT has no {pattern} with the code's {constant}"
+
+
+def body_of(name, source):
+    found = re.search(rf"(?ms)^(?:pub )?fn {name}\((.*?)^\}}", source)
+    return found[1] if found else ""
+
+
+def signs(name, source, seen):
+    """What a reader of a word, with the functions that it calls, compares the word with."""
+    if name in seen:
+        return set()
+    seen.add(name)
+    body = body_of(name, source)
+    found = {part for text in re.findall(r'b"([^"]*)"', body) for part in re.findall(r"\+?\w+|-", text)}
+    letters = "".join(re.findall(r"b'(\w)' =>", body))
+    return found.union([letters] if letters else [], *(signs(called, source, seen) for called in re.findall(r"(\w+)\(", body)))
+
+
+def check_words():
+    """FORMAT has a row for each word of a step that is no plain number, with the signs that the code reads, and the bounds of its numbers."""
+    fields = dict(re.findall(r'Field::(\w+) => "(\w+)"', text_of("crates/steps/src/table.rt")))
+    of_fields = dict(re.findall(r"Field::(\w+) => self\.\w+ = (\w+)\(", text_of("crates/steps/src/parts.rt")))
+    readers = {label: of_fields[field] for field, label in fields.items()}
+    source = text_of("crates/steps/src/fields.rt") + text_of("crates/steps/src/accesses.rt")
+    told = list(rows("A file for `run`", "word"))
+    named = [label for row in told for label in row[0].split(", ")]
+    yield sorted([*named, *PLAIN_LABELS]) == sorted(readers), "FORMAT's table of words has other words than the code"
+    for cell, meaning in told:
+        known = [readers[label] for label in cell.split(", ") if label in readers]
+        first = re.sub(r"\bas `[^`]*`", "", meaning.split(";")[0])
+        marks = set(re.findall(r"`([^`]*)`", first))
+        yield all(marks == signs(reader, source, set()) for reader in known), f"FORMAT has other signs of {cell} than the code"
+        below = [2 ** int(power) if power else int(plain) for power, plain in re.findall(r"below (?:2\^(\d+)|(\d+))", first)]
+        bounds = [value(bound) for reader in known for bound in re.findall(r"< (1 << \w+)", body_of(reader, source))]
+        yield below == bounds, f"FORMAT has other bounds of {cell} than the code"
 
 
 def check_formats(program):
     yield from check_keys(program)
+    yield from check_limits()
+    yield from check_words()
     steps = set(cells("A file for `run`", "step"))
     of_run, of_live = forms()
     yield steps == of_run, "FORMAT has other steps of run than the code"
@@ -267,6 +418,7 @@ def checks(program):
     for page in pages:
         yield from check_links(page)
     yield from check_help(program)
+    yield from check_wrapper()
     yield from check_formats(program)
     yield from check_sizes(pages)
 
