@@ -159,9 +159,9 @@ impl Config {
         }
     }
 
-    /// The same configuration with one space more, as the last: its home, the number of a hart, and
-    /// its ASID (privileged manual 4.1.11). The caller sees to it that there are fewer than 32
-    /// spaces; `spaces.is_full` tells. `check` is what judges the home and the ASID.
+    /// The same configuration with one space more, as the last, of this home, the number of a hart,
+    /// and this ASID (privileged manual 4.1.11). There must be fewer than 32 spaces, as
+    /// `spaces.is_full` tells; `check` judges the home and the ASID.
     pub fn space(self, home: u8, asid: u16) -> Config
         requires { length self.spaces.items < MAX_SPACES }
         ensures { result ≡ record self {

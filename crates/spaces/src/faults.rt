@@ -1,4 +1,4 @@
-//! Why memory is not opened, which limits a configuration has, and why a page is not mapped,
+//! Why memory is not opened, the limits of what it is opened with, and why a page is not mapped,
 //! unmapped or protected.
 
 use std::alloc::AllocError;
@@ -10,7 +10,8 @@ pub enum OpenFault {
     /// There was no memory for what is opened.
     #[error("out of memory")]
     NoMemory,
-    /// `Config::check` says no. `Config::broken_limit` tells which limit does not hold.
+    /// `Config::check` says no; for harts on threads, `Config::check_live`. Which limit does not
+    /// hold is what `Config::broken_limit` and `Config::broken_live_limit` answer.
     #[error("the configuration is not within the limits")]
     BadLayout,
 }
@@ -26,8 +27,8 @@ impl From<AllocError> for OpenFault {
     }
 }
 
-/// A limit of a configuration, of those in the order of its fields. As an error it says what is
-/// beyond the limit.
+/// The limits of a configuration, in the order of its fields. As an error, a limit says how it is
+/// broken.
 #[derive(Clone, Copy, PartialEq, Eq, Debug, Error)]
 pub enum Limit {
     /// There are 1 to 8 harts.
