@@ -20,6 +20,7 @@ mod tables_told;
 mod values;
 
 pub use checked::{Checked, check_text};
-pub use commands::{Command, command_of};
-pub use laws::{near_words_are_edited_ones, worked_swaps};
+pub use commands::command_of;
+pub use files::Command;
+pub use laws::{near_words_are_edited_ones, no_word_is_its_own_swap, worked_swaps};
 pub use near::{is_near, is_swap, nearest};
