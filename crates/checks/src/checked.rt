@@ -10,12 +10,12 @@ ghost use Rattle.files.specs.RunFile.{run_plan_of};
 ghost use Rattle.files.specs.WalkFile.{walk_plan_of};
 ghost use Rattle.checks.specs.Told.{IsStillTrue, command_of, fault_for, fault_in_members, fault_of, is_memory, last_text, lines_text, most_told, name_by, whole_text};
 
-use crate::commands::{Command, command_of};
+use crate::commands::command_of;
 use crate::keys_known::tell_unknown;
 use crate::report::{MOST_TOLD, Piece, Report, Spot};
 use crate::steps_told::{tell_live, tell_run, tell_walk};
 use crate::values::Document;
-use files::{Fault, live_scenario_in, run_scenario_in, walk_scenario_in};
+use files::{Command, Fault, live_scenario_in, run_scenario_in, walk_scenario_in};
 use std::alloc::{AllocError, Global};
 use toml::Table;
 

@@ -4,8 +4,7 @@ ghost use Rattle.std.specs.List.{list_any};
 ghost use Rattle.toml.specs.View.{table_view};
 ghost use Rattle.checks.specs.Told.{command_of, has_key, has_own_key};
 
-pub use files::Command;
-use files::{Key, value_of};
+use files::{Command, Key, value_of};
 use toml::Table;
 
 /// The command that a document is for: `live` if it has a key that no other command knows, else

@@ -1,7 +1,7 @@
 //! How the steps of each command are written.
 
-use crate::commands::Command;
 use arrayvec::ArrayVec;
+use files::Command;
 use steps::{Field, NAMES, Row, STEP_NAMES, StepName, WALK_FIELDS};
 
 /// How a step is written.

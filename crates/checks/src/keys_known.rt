@@ -75,20 +75,20 @@ fn tell_unknown_key(report: &mut Report, document: &Document<'_>, command: Comma
             Piece::Text(", not of "),
             this,
         ];
-        document.tell(report, key, &what);
+        document.tell_of_name(report, key, &what);
         return;
     }
     let (none, perhaps) = (Piece::Text("no key of "), Piece::Text("; perhaps "));
     if let Some(meant) = nearest_of(command, key) {
-        document.tell(report, key, &[none, this, perhaps, Piece::Text(meant)]);
+        document.tell_of_name(report, key, &[none, this, perhaps, Piece::Text(meant)]);
         return;
     }
     match nearest_of_others(key) {
         Some((meant, other)) => {
             let (of, other) = (Piece::Text(" of "), Piece::Text(other.name()));
             let what = [none, this, perhaps, Piece::Text(meant), of, other];
-            document.tell(report, key, &what);
+            document.tell_of_name(report, key, &what);
         }
-        None => document.tell(report, key, &[none, this]),
+        None => document.tell_of_name(report, key, &[none, this]),
     }
 }

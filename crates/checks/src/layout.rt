@@ -32,7 +32,7 @@ pub fn tell_layout(report: &mut Report, document: &Document<'_>, most_frames: u6
 fn tell_spares(report: &mut Report, document: &Document<'_>, harts: Option<u8>) -> Option<u64>
     ensures { IsStillTrue report.old.is_out_of_memory report.new.is_out_of_memory }
 {
-    let Some(value) = document.value(Key::Spares.name()) else {
+    let Some(value) = document.value(Key::Spares) else {
         return harts.map(|harts| u64::from(DEFAULT_SPARES).saturating_mul(u64::from(harts)));
     };
     let Some(values) = value.as_array() else {
@@ -42,7 +42,7 @@ fn tell_spares(report: &mut Report, document: &Document<'_>, harts: Option<u8>) 
             Piece::Text(", not "),
             Piece::Text(kind(value)),
         ];
-        document.tell(report, Key::Spares.name(), &what);
+        document.tell(report, Key::Spares, &what);
         return None;
     };
     tell_count(report, document, harts, values.len());
@@ -63,7 +63,7 @@ fn tell_count(report: &mut Report, document: &Document<'_>, harts: Option<u8>, c
                 Piece::Number(u64::from(harts)),
                 Piece::Text(": one number for each hart is expected"),
             ];
-            document.tell(report, Key::Spares.name(), &what)
+            document.tell(report, Key::Spares, &what)
         }
         None if count > MAX_HARTS => {
             let what = [
@@ -73,7 +73,7 @@ fn tell_count(report: &mut Report, document: &Document<'_>, harts: Option<u8>, c
                 Piece::Number(MAX_HARTS as u64),
                 Piece::Text(" harts is expected"),
             ];
-            document.tell(report, Key::Spares.name(), &what)
+            document.tell(report, Key::Spares, &what)
         }
         _ => {}
     }
@@ -109,12 +109,12 @@ fn tell_spare(report: &mut Report, document: &Document<'_>, hart: usize, value: 
         Some(n) => {
             let limits = Piece::Text(" is not from 0 to 65535");
             let what = [place, hart, Piece::Text(": "), Piece::Whole(n), limits];
-            document.tell(report, Key::Spares.name(), &what)
+            document.tell(report, Key::Spares, &what)
         }
         None => {
             let expected = Piece::Text(": a whole number is expected, not ");
             let what = [place, hart, expected, Piece::Text(kind(value))];
-            document.tell(report, Key::Spares.name(), &what)
+            document.tell(report, Key::Spares, &what)
         }
     }
 }
@@ -135,7 +135,8 @@ fn tell_frames(report: &mut Report, parts: [u64; 3], base: Option<u64>, most: u6
                 Piece::Number(count),
                 Piece::Text(" from PPN "),
                 Piece::Address(base),
-                Piece::Text(" on are not all below 2^44"),
+                Piece::Text(" on are not all below "),
+                Piece::Limit(PPN_LIMIT),
             ];
             report.tell_of_file(&what)
         }

@@ -25,6 +25,8 @@ pub enum Piece<'a> {
     Whole(i64),
     /// A number in hexadecimal digits.
     Address(u64),
+    /// The limit of a range: `2^44` if it is such a power, else its digits.
+    Limit(u64),
     Fault(&'a Fault),
     StepFault(StepFault),
     /// How a step is written.
@@ -147,9 +149,19 @@ fn push_piece(text: &mut String, piece: Piece<'_>) -> Result<(), AllocError> {
         Piece::Number(number) => write!(text, "{number}"),
         Piece::Whole(number) => write!(text, "{number}"),
         Piece::Address(number) => write!(text, "{number:#x}"),
+        Piece::Limit(limit) => push_limit(text, limit),
         Piece::Fault(fault) => write!(text, "{fault}"),
         Piece::StepFault(fault) => write!(text, "{fault}"),
         Piece::Form(form) => push_form(text, form),
+    }
+}
+
+fn push_limit(text: &mut String, limit: u64) -> Result<(), AllocError> {
+    if limit.is_power_of_two() {
+        let bits = limit.trailing_zeros();
+        write!(text, "2^{bits}")
+    } else {
+        write!(text, "{limit}")
     }
 }
 

@@ -53,10 +53,10 @@ fn space_with(values: &[Value], harts: u64, asid: u64) -> Option<usize> {
 pub fn tell_spaces(report: &mut Report, document: &Document<'_>, harts: Option<u8>) -> Option<usize>
     ensures { IsStillTrue report.old.is_out_of_memory report.new.is_out_of_memory }
 {
-    if document.value(Key::Spaces.name()).is_none() {
+    if document.value(Key::Spaces).is_none() {
         return Some(Config::default().spaces.len());
     }
-    let Some(values) = document.texts(report, Key::Spaces.name(), SPACE_TEXTS) else {
+    let Some(values) = document.texts(report, Key::Spaces, SPACE_TEXTS) else {
         return None;
     };
     tell_count(report, document, values.len());
@@ -76,7 +76,7 @@ fn tell_count(report: &mut Report, document: &Document<'_>, count: usize)
         Piece::Text(" spaces are not from 1 to "),
         Piece::Number(MAX_SPACES as u64),
     ];
-    document.tell(report, Key::Spaces.name(), &what)
+    document.tell(report, Key::Spaces, &what)
 }
 
 /// Reports each space that is wrong, or has the ASID of an earlier one.
@@ -84,7 +84,7 @@ fn tell_each(report: &mut Report, document: &Document<'_>, harts: Option<u8>, va
     ensures { IsStillTrue report.old.is_out_of_memory report.new.is_out_of_memory }
 {
     let harts = u64::from(harts.unwrap_or(MAX_HARTS as u8));
-    let place = Place::of_key(report, document.text, Key::Spaces.name());
+    let place = document.place(report, Key::Spaces);
     tell_each_at(report, &place, harts, values)
 }
 

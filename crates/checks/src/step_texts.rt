@@ -2,17 +2,14 @@
 ghost use Rattle.checks.specs.Told.{IsStillTrue};
 ghost use Rattle.std.specs.Prelude.{◌≤◌};
 
-use crate::commands::Command;
 use crate::fields::{expected, is_right};
 use crate::forms::{Form, names};
 use crate::near::nearest;
 use crate::report::{Piece, Report, Spot};
 use crate::split::{text_of, word_at};
+use files::Command;
 use pte::Scheme;
 use steps::{Field, StepFault, live_step_among, num, run_step_among, setup_step_among, walk_step};
-
-/// The most words of a form.
-const MOST_WORDS: usize = 6;
 
 const WRITTEN: Piece<'static> = Piece::Text("; written: ");
 
@@ -151,7 +148,7 @@ impl Reader {
     fn tell_word(&self, report: &mut Report, spot: Spot<'_>, form: Form, text: &str) -> bool
         ensures { IsStillTrue report.old.is_out_of_memory report.new.is_out_of_memory }
     {
-        for index in 0..MOST_WORDS {
+        for index in 0..form.count() {
             if let Some(field) = form.field_at(index) {
                 let word = word_at(text, index).map(|word| text_of(word));
                 if self.tell_field(report, spot, form, field, word) {
@@ -203,7 +200,7 @@ impl Reader {
     fn tell_hart(&self, report: &mut Report, spot: Spot<'_>, form: Form, text: &str) -> bool
         ensures { IsStillTrue report.old.is_out_of_memory report.new.is_out_of_memory }
     {
-        for index in 0..MOST_WORDS {
+        for index in 0..form.count() {
             if let Some(hart) = self.absent_at(form, text, index) {
                 let is = Piece::Text(" is not there: the harts are 0 to ");
                 let last = Piece::Number(u64::from(self.harts.saturating_sub(1)));
@@ -237,7 +234,7 @@ impl Reader {
     fn tell_page(&self, report: &mut Report, spot: Spot<'_>, form: Form, text: &str) -> bool
         ensures { IsStillTrue report.old.is_out_of_memory report.new.is_out_of_memory }
     {
-        for index in 0..MOST_WORDS {
+        for index in 0..form.count() {
             if matches!(form.field_at(index), Some(Field::Page)) {
                 let word = word_at(text, index).unwrap_or(b"".as_slice());
                 let why = Piece::Text(wrong_base(self.scheme, word));

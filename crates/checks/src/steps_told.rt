@@ -78,13 +78,13 @@ fn tell_step(
 fn tell_list(
     report: &mut Report,
     document: &Document<'_>,
-    key: &str,
+    key: Key,
     reader: &Reader,
     values: &[Value],
 )
     ensures { IsStillTrue report.old.is_out_of_memory report.new.is_out_of_memory }
 {
-    let place = Place::of_key(report, document.text, key);
+    let place = document.place(report, key);
     tell_texts(report, reader, &place, values)
 }
 
@@ -114,7 +114,7 @@ fn tell_steps(
 {
     if let Some(values) = values {
         tell_many(report, values.len());
-        tell_list(report, document, Key::Steps.name(), reader, values);
+        tell_list(report, document, Key::Steps, reader, values);
     }
 }
 
@@ -123,11 +123,7 @@ pub fn tell_walk(report: &mut Report, document: &Document<'_>)
     ensures { IsStillTrue report.old.is_out_of_memory report.new.is_out_of_memory }
 {
     tell_tables(report, document);
-    let values = document.texts(
-        report,
-        Key::Steps.name(),
-        "an array of texts MODE ACCESS ADDRESS",
-    );
+    let values = document.texts(report, Key::Steps, "an array of texts MODE ACCESS ADDRESS");
     let _mode = document.mode(report);
     let reader = Reader {
         list: List::Walk,
@@ -142,7 +138,7 @@ pub fn tell_run(report: &mut Report, document: &Document<'_>)
     ensures { IsStillTrue report.old.is_out_of_memory report.new.is_out_of_memory }
 {
     let harts = tell_layout(report, document, MAX_FRAMES);
-    let values = document.texts(report, Key::Steps.name(), "an array of texts");
+    let values = document.texts(report, Key::Steps, "an array of texts");
     let scheme = document.mode(report).unwrap_or(Scheme::Sv48);
     let reader = Reader {
         list: List::Run,
@@ -154,7 +150,7 @@ pub fn tell_run(report: &mut Report, document: &Document<'_>)
 
 /// The scripts of a document.
 fn scripts<'a>(document: &Document<'a>) -> &'a [Value] {
-    match document.value(Key::Scripts.name()) {
+    match document.value(Key::Scripts) {
         Some(Value::Array(scripts)) => scripts.as_slice(),
         _ => &[],
     }
@@ -164,11 +160,11 @@ fn scripts<'a>(document: &Document<'a>) -> &'a [Value] {
 fn tell_shape(report: &mut Report, document: &Document<'_>, harts: u8)
     ensures { IsStillTrue report.old.is_out_of_memory report.new.is_out_of_memory }
 {
-    let Some(value) = document.value(Key::Scripts.name()) else {
+    let Some(value) = document.value(Key::Scripts) else {
         return;
     };
     let Some(values) = value.as_array() else {
-        document.tell_kind(report, Key::Scripts.name(), SCRIPT_TEXTS, value);
+        document.tell_kind(report, Key::Scripts, SCRIPT_TEXTS, value);
         return;
     };
     let count = values.len();
@@ -179,13 +175,13 @@ fn tell_shape(report: &mut Report, document: &Document<'_>, harts: u8)
             Piece::Number(u64::from(harts)),
             Piece::Text(if harts == 1 { " hart" } else { " harts" }),
         ];
-        document.tell(report, Key::Scripts.name(), &what);
+        document.tell(report, Key::Scripts, &what);
     }
     for value in values.as_slice() {
         if report.is_full() {
             break;
         }
-        document.tell_texts(report, Key::Scripts.name(), SCRIPT_TEXTS, value);
+        document.tell_texts(report, Key::Scripts, SCRIPT_TEXTS, value);
     }
 }
 
@@ -193,7 +189,7 @@ fn tell_shape(report: &mut Report, document: &Document<'_>, harts: u8)
 fn tell_scripts(report: &mut Report, document: &Document<'_>, reader: Reader, scripts: &[Value])
     ensures { IsStillTrue report.old.is_out_of_memory report.new.is_out_of_memory }
 {
-    let mut place = Place::of_key(report, document.text, Key::Scripts.name());
+    let mut place = document.place(report, Key::Scripts);
     if scripts.iter().any(|script| texts_in(script).is_none()) {
         place.marks.clear();
     }
@@ -232,7 +228,7 @@ pub fn tell_live(report: &mut Report, document: &Document<'_>)
 {
     let harts = tell_layout(report, document, MAX_LIVE_FRAMES);
     let harts = harts.unwrap_or(MAX_HARTS as u8);
-    let setup = document.texts(report, Key::Setup.name(), "an array of texts");
+    let setup = document.texts(report, Key::Setup, "an array of texts");
     tell_shape(report, document, harts);
     document.tell_numbers(report, Command::Live.own_keys());
     let scheme = document.mode(report).unwrap_or(Scheme::Sv48);
@@ -256,7 +252,7 @@ fn tell_live_steps(
     let scripts = scripts(document);
     tell_many(report, count_all(setup, scripts));
     if let Some(values) = setup {
-        tell_list(report, document, Key::Setup.name(), &reader, values);
+        tell_list(report, document, Key::Setup, &reader, values);
     }
     tell_scripts(report, document, reader, scripts)
 }

@@ -30,7 +30,7 @@ pub fn tell_tables(report: &mut Report, document: &Document<'_>)
 {
     document.tell_numbers(report, Command::Walk.own_keys());
     tell_frames(report, document);
-    if let Some(values) = document.texts(report, Key::Words.name(), WORD_TEXTS) {
+    if let Some(values) = document.texts(report, Key::Words, WORD_TEXTS) {
         tell_words(report, document, values);
     }
 }
@@ -39,7 +39,7 @@ pub fn tell_tables(report: &mut Report, document: &Document<'_>)
 fn tell_frames(report: &mut Report, document: &Document<'_>)
     ensures { IsStillTrue report.old.is_out_of_memory report.new.is_out_of_memory }
 {
-    let Some(values) = document.texts(report, Key::Frames.name(), FRAME_TEXTS) else {
+    let Some(values) = document.texts(report, Key::Frames, FRAME_TEXTS) else {
         return;
     };
     if values.len() > MOST_FRAMES {
@@ -48,9 +48,9 @@ fn tell_frames(report: &mut Report, document: &Document<'_>)
             Piece::Text(" frames are more than "),
             Piece::Number(MOST_FRAMES as u64),
         ];
-        document.tell(report, Key::Frames.name(), &what);
+        document.tell(report, Key::Frames, &what);
     }
-    let place = Place::of_key(report, document.text, Key::Frames.name());
+    let place = document.place(report, Key::Frames);
     tell_each_frame(report, &place, values)
 }
 
@@ -82,7 +82,8 @@ fn tell_frame(report: &mut Report, line: Option<usize>, index: usize, text: &str
         number,
         Piece::Text(" of frames: "),
         Piece::Word(text),
-        Piece::Text(" is no PPN, a number below 2^44"),
+        Piece::Text(" is no PPN, a number below "),
+        Piece::Limit(PPN_LIMIT),
     ];
     report.tell(Spot { line, place: &[] }, &what);
 }
@@ -92,7 +93,7 @@ fn frames_of(report: &mut Report, document: &Document<'_>) -> Option<Vec<u64>>
     ensures { IsStillTrue report.old.is_out_of_memory report.new.is_out_of_memory }
 {
     let mut ppns = Vec::new(report.alloc);
-    let values = match document.value(Key::Frames.name()) {
+    let values = match document.value(Key::Frames) {
         Some(value) => texts_in(value),
         None => return Some(ppns),
     };
@@ -120,7 +121,7 @@ fn push_ppns(ppns: &mut Vec<u64>, values: &[Value]) -> Result<(), AllocError> {
 fn tell_words(report: &mut Report, document: &Document<'_>, values: &[Value])
     ensures { IsStillTrue report.old.is_out_of_memory report.new.is_out_of_memory }
 {
-    let place = Place::of_key(report, document.text, Key::Words.name());
+    let place = document.place(report, Key::Words);
     let frames = frames_of(report, document);
     tell_each_word(report, &place, frames.as_ref(), values);
 }

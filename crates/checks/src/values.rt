@@ -1,4 +1,7 @@
 //! What is wrong with the values of keys: each on its own.
+ghost use Rattle.std.specs.Prelude.{IfSome};
+ghost use Rattle.files.specs.KeyTable.{name_of};
+ghost use Rattle.checks.specs.Places.{IsKeyLine};
 ghost use Rattle.checks.specs.Told.{IsStillTrue};
 
 use crate::places::Place;
@@ -36,16 +39,32 @@ pub fn kind(value: &Value) -> &'static str {
 
 impl<'a> Document<'a> {
     /// The value at a key.
-    pub fn value(&self, key: &str) -> Option<&'a Value> {
-        self.table.get(key)
+    pub fn value(&self, key: Key) -> Option<&'a Value> {
+        self.table.get(key.name())
+    }
+
+    /// Where a key stands in the text.
+    pub fn place(&self, report: &mut Report, key: Key) -> Place
+        ensures line { IfSome result.line
+            (λ number. IsKeyLine self.now.text.now (name_of key) number) }
+        ensures still_short { IsStillTrue report.old.is_out_of_memory report.new.is_out_of_memory }
+    {
+        Place::of_key(report, self.text, key.name())
     }
 
     /// Reports what is wrong with a key.
-    pub fn tell(&self, report: &mut Report, key: &str, what: &[Piece<'_>])
+    pub fn tell(&self, report: &mut Report, key: Key, what: &[Piece<'_>])
         ensures { IsStillTrue report.old.is_out_of_memory report.new.is_out_of_memory }
     {
-        let line = Place::of_key(report, self.text, key).line;
-        let place = [Piece::Text("key "), Piece::Word(key), Piece::Text(": ")];
+        self.tell_of_name(report, key.name(), what)
+    }
+
+    /// Reports what is wrong with a key of this name, known or not.
+    pub fn tell_of_name(&self, report: &mut Report, name: &str, what: &[Piece<'_>])
+        ensures { IsStillTrue report.old.is_out_of_memory report.new.is_out_of_memory }
+    {
+        let line = Place::of_key(report, self.text, name).line;
+        let place = [Piece::Text("key "), Piece::Word(name), Piece::Text(": ")];
         report.tell(
             Spot {
                 line,
@@ -56,7 +75,7 @@ impl<'a> Document<'a> {
     }
 
     /// Reports that the value of a key is of the wrong kind.
-    pub fn tell_kind(&self, report: &mut Report, key: &str, expected: &str, value: &Value)
+    pub fn tell_kind(&self, report: &mut Report, key: Key, expected: &str, value: &Value)
         ensures { IsStillTrue report.old.is_out_of_memory report.new.is_out_of_memory }
     {
         let what = [
@@ -75,7 +94,7 @@ impl<'a> Document<'a> {
                 least,
                 most,
                 default,
-            } => match self.value(key.name()) {
+            } => match self.value(key) {
                 Some(value) => whole_in(value, least, most),
                 None => Some(default),
             },
@@ -86,7 +105,7 @@ impl<'a> Document<'a> {
     /// The PPN at a key, or else its default. `None`: it is wrong, or the key has another kind.
     pub fn ppn(&self, key: Key) -> Option<u64> {
         match key.kind() {
-            Kind::Ppn { limit, default } => match self.value(key.name()) {
+            Kind::Ppn { limit, default } => match self.value(key) {
                 Some(value) => ppn_in(value, limit),
                 None => Some(default),
             },
@@ -99,7 +118,7 @@ impl<'a> Document<'a> {
         ensures { IsStillTrue report.old.is_out_of_memory report.new.is_out_of_memory }
     {
         for key in keys {
-            if let Some(value) = self.value(key.name()) {
+            if let Some(value) = self.value(*key) {
                 self.tell_number(report, *key, value);
             }
         }
@@ -112,15 +131,15 @@ impl<'a> Document<'a> {
         match key.kind() {
             Kind::Whole { least, most, .. } => {
                 let range = (i64::from(least), i64::from(most));
-                self.tell_whole(report, key.name(), range, value)
+                self.tell_whole(report, key, range, value)
             }
-            Kind::Ppn { limit, .. } => self.tell_ppn(report, key.name(), limit, value),
+            Kind::Ppn { limit, .. } => self.tell_ppn(report, key, limit, value),
             Kind::Scheme | Kind::Spares | Kind::Texts | Kind::Scripts => {}
         }
     }
 
     /// Reports whether a value is no whole number within the range.
-    fn tell_whole(&self, report: &mut Report, key: &str, range: (i64, i64), value: &Value)
+    fn tell_whole(&self, report: &mut Report, key: Key, range: (i64, i64), value: &Value)
         ensures { IsStillTrue report.old.is_out_of_memory report.new.is_out_of_memory }
     {
         match value.as_integer() {
@@ -130,7 +149,7 @@ impl<'a> Document<'a> {
         }
     }
 
-    fn tell_outside(&self, report: &mut Report, key: &str, range: (i64, i64), n: i64)
+    fn tell_outside(&self, report: &mut Report, key: Key, range: (i64, i64), n: i64)
         ensures { IsStillTrue report.old.is_out_of_memory report.new.is_out_of_memory }
     {
         let what = [
@@ -143,7 +162,7 @@ impl<'a> Document<'a> {
         self.tell(report, key, &what)
     }
 
-    fn tell_no_whole(&self, report: &mut Report, key: &str, range: (i64, i64), value: &Value)
+    fn tell_no_whole(&self, report: &mut Report, key: Key, range: (i64, i64), value: &Value)
         ensures { IsStillTrue report.old.is_out_of_memory report.new.is_out_of_memory }
     {
         let what = [
@@ -158,7 +177,7 @@ impl<'a> Document<'a> {
     }
 
     /// Reports whether a value is no text of one number, below `limit` if there is one.
-    fn tell_ppn(&self, report: &mut Report, key: &str, limit: Option<u64>, value: &Value)
+    fn tell_ppn(&self, report: &mut Report, key: Key, limit: Option<u64>, value: &Value)
         ensures { IsStillTrue report.old.is_out_of_memory report.new.is_out_of_memory }
     {
         let Some(text) = value.as_str() else {
@@ -171,23 +190,28 @@ impl<'a> Document<'a> {
             self.tell(report, key, &what);
             return;
         };
-        let why = match number_of(text) {
-            None => NO_NUMBER,
-            Some(n) if is_below(n, limit) => return,
-            Some(_) => " is not below 2^44",
+        let Some(n) = number_of(text) else {
+            self.tell(report, key, &[Piece::Word(text), Piece::Text(NO_NUMBER)]);
+            return;
         };
-        self.tell(report, key, &[Piece::Word(text), Piece::Text(why)])
+        match limit {
+            Some(limit) if n >= limit => {
+                let is = Piece::Text(" is not below ");
+                self.tell(report, key, &[Piece::Word(text), is, Piece::Limit(limit)])
+            }
+            _ => {}
+        }
     }
 
     /// The scheme of the key `mode`.
     pub fn mode(&self, report: &mut Report) -> Option<Scheme>
         ensures { IsStillTrue report.old.is_out_of_memory report.new.is_out_of_memory }
     {
-        let Some(value) = self.value(Key::Mode.name()) else {
+        let Some(value) = self.value(Key::Mode) else {
             return Some(Config::default().scheme);
         };
         let Some(text) = value.as_str() else {
-            self.tell_kind(report, Key::Mode.name(), "a text sv39 or sv48", value);
+            self.tell_kind(report, Key::Mode, "a text sv39 or sv48", value);
             return None;
         };
         if is_only_word(text, "sv39") {
@@ -197,13 +221,13 @@ impl<'a> Document<'a> {
             return Some(Scheme::Sv48);
         }
         let what = [Piece::Word(text), Piece::Text(" is neither sv39 nor sv48")];
-        self.tell(report, Key::Mode.name(), &what);
+        self.tell(report, Key::Mode, &what);
         None
     }
 
     /// The values of the array at a key, each of which is a text; `of` says what the array is.
     /// `None`: the key is absent, or something is no text, and that is reported.
-    pub fn texts(&self, report: &mut Report, key: &str, of: &str) -> Option<&'a [Value]>
+    pub fn texts(&self, report: &mut Report, key: Key, of: &str) -> Option<&'a [Value]>
         ensures { IsStillTrue report.old.is_out_of_memory report.new.is_out_of_memory }
     {
         match self.value(key) {
@@ -216,7 +240,7 @@ impl<'a> Document<'a> {
     }
 
     /// Reports whether a value is no array, and each element of it that is no text.
-    pub fn tell_texts(&self, report: &mut Report, key: &str, of: &str, value: &Value)
+    pub fn tell_texts(&self, report: &mut Report, key: Key, of: &str, value: &Value)
         ensures { IsStillTrue report.old.is_out_of_memory report.new.is_out_of_memory }
     {
         let Some(values) = value.as_array() else {
@@ -234,7 +258,7 @@ impl<'a> Document<'a> {
     }
 
     /// Reports that an element of an array is no text.
-    fn tell_element(&self, report: &mut Report, key: &str, index: usize, value: &Value)
+    fn tell_element(&self, report: &mut Report, key: Key, index: usize, value: &Value)
         ensures { IsStillTrue report.old.is_out_of_memory report.new.is_out_of_memory }
     {
         let what = [
