@@ -276,7 +276,6 @@ def check_wrapper():
     for command in ("Live", "Walk"):
         listed = re.search(rf"(?m)^{command.lower()}_keys='([\w|]*)'$", text_of("svsim"))
         yield bool(listed) and listed[1].split("|") == own_keys(command), f"svsim has other keys of {command.lower()} alone than the code"
-    yield own_keys("Run") == [], "svsim has no keys of run alone, and the code has"
 
 
 def check_keys(program):
