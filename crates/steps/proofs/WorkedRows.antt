@@ -45,6 +45,12 @@ store_of_walk = refl
 pub begin_with_mxr : rows.begin_with_mxr
 begin_with_mxr = refl
 
+pub begin_with_a_store : rows.begin_with_a_store
+begin_with_a_store = refl
+
+pub fence_of_a_page : rows.fence_of_a_page
+fence_of_a_page = refl
+
 pub fence_of_a_space : rows.fence_of_a_space
 fence_of_a_space = refl
 
@@ -150,7 +156,7 @@ farther_page = refl
 
 pub ruleset letter_rows = (letter_r, letter_w, letter_x, letter_u, letter_g, letter_a, letter_d, three_letters, no_letters, letter_twice, letter_v)
 
-pub ruleset step_rows = (blanks_between_words, store_of_walk, begin_with_mxr, fence_of_a_space, unmap_of_the_kernel, flush_of_all, take_from_hart_0, retire_of_a_space, reclaim_of_a_space, create_of_a_space, wide_asid)
+pub ruleset step_rows = (blanks_between_words, store_of_walk, begin_with_mxr, begin_with_a_store, fence_of_a_page, fence_of_a_space, unmap_of_the_kernel, flush_of_all, take_from_hart_0, retire_of_a_space, reclaim_of_a_space, create_of_a_space, wide_asid)
 
 pub ruleset fault_rows = (no_step, no_hart, no_step_after_no_page, no_page)
 

@@ -75,6 +75,15 @@ begin_with_mxr =
     run_step_of Sv39 (codes "7 begin u+mxr load 10")
     ≡ Some (events.Begin 7 10 Load (record { mode = User; sum = false; mxr = true }))
 
+abbrev pub begin_with_a_store : Type 0
+begin_with_a_store =
+    run_step_of Sv39 (codes "6 begin s+sum+mxr store 0x1008")
+    ≡ Some (events.Begin 6 0x1008 Store (record { mode = Super; sum = true; mxr = true }))
+
+abbrev pub fence_of_a_page : Type 0
+fence_of_a_page =
+    run_step_of Sv39 (codes "4 fence 0x3000 7") ≡ Some (events.Fence 4 (Some 0x3000) (Some 7))
+
 abbrev pub fence_of_a_space : Type 0
 fence_of_a_space = run_step_of Sv39 (codes "4 fence x0 2") ≡ Some (events.Fence 4 None (Some 2))
 

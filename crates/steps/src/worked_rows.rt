@@ -26,6 +26,8 @@ pub fn worked_steps()
     ensures blanks_between_words { rows.blanks_between_words }
     ensures store_of_walk { rows.store_of_walk }
     ensures begin_with_mxr { rows.begin_with_mxr }
+    ensures begin_with_a_store { rows.begin_with_a_store }
+    ensures fence_of_a_page { rows.fence_of_a_page }
     ensures fence_of_a_space { rows.fence_of_a_space }
     ensures unmap_of_the_kernel { rows.unmap_of_the_kernel }
     ensures flush_of_all { rows.flush_of_all }
