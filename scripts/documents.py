@@ -11,11 +11,13 @@
   have the code's order, types, limits and defaults, and whole numbers the limits that PROGRAM tells. Words of steps have the signs that the
   code reads and the bounds of its numbers; the rest of their cells is not compared, nor are replies, and of other tables the numbers in LIMITS
   alone.
+- Definitions: docs/dev/DEFINITIONS.md has the counts of scripts/lines_to_believe.py.
 - Sizes: README's words and lines, and the bytes of the pages for users.
 
 The last line is `N passed, M failed`.
 """
 import os, re, subprocess, sys, tempfile
+from lines_to_believe import counts
 
 TOP = os.path.dirname(os.path.dirname(os.path.abspath(__file__)))
 MOST_WORDS, MOST_LINES, MOST_BYTES = 900, 115, 75 * 1024
@@ -398,6 +400,20 @@ def check_formats(program):
     yield set(cells("The refusals", "refusal")) == refusals, "FORMAT has other refusals than the code"
 
 
+def check_definitions():
+    """The sentence `How much there is to believe`, by promise, in all, and by crate."""
+    text = text_of("docs/dev/DEFINITIONS.md")
+    lines = {title: count for title, count, _, _ in counts()}
+    _, all_lines, definitions, crates = next(it for it in counts() if it[0] == "once in all")
+    more = lines.pop("with the parts asids, spaces and frames")
+    told = ", ".join(f"{title} {count}" for title, count in lines.items())
+    yield f"{told}, of {definitions} definitions ({more} with the parts `asids`, `spaces` and `frames`)" in text, "DEFINITIONS: other counts"
+    groups = [("pte", "walk"), ("tlb", "shoot"), ("spaces",), ("history",), ("stepcore",)]
+    wanted = [sum(crates[crate] for crate in group) for group in groups]
+    found = re.search(r"\. (\d+) are the manual's: .* (\d+) say what .* (\d+) say where .* (\d+) are the rules .* The last (\d+) say ", text)
+    yield found is not None and [int(it) for it in found.groups()] == wanted and sum(wanted) == all_lines, f"DEFINITIONS: not {wanted}"
+
+
 def check_sizes(pages):
     readme = text_of("README.md")
     words, lines = len(readme.split()), readme.count("\n")
@@ -419,6 +435,7 @@ def checks(program):
     yield from check_help(program)
     yield from check_wrapper()
     yield from check_formats(program)
+    yield from check_definitions()
     yield from check_sizes(pages)
 
 
