@@ -16,7 +16,7 @@ failed=0
 
 # The part of the toolchain: its version, builds of a program that prints `proved`, and a build that answers each case by what stands
 # in `lines`, `trouble` and `status`, keeps the file that it was given, and counts how often it was called.
-mkdir "$own/bin" "$own/tree" "$own/tree/crates" "$own/tree/crates/svsim" "$own/tree/examples" "$own/tree/examples/watch"
+mkdir -p "$own/bin" "$own/tree/crates/svsim" "$own/tree/crates/svsim_watch" "$own/tree/examples/watch"
 cat >"$own/bin/rt" <<'RT'
 #!/bin/sh
 play=${0%/bin/rt}
@@ -25,7 +25,7 @@ version) cat "$play/version" ;;
 run) mkdir -p out && printf '#!/bin/sh\necho proved\n' >out/svsim && chmod +x out/svsim ;;
 try)
     for word in "$@"; do cases=$word; done
-    echo built >>"$play/builds"
+    echo "${PWD##*/}" >>"$play/builds"
     sleep "$(cat "$play/seconds")"
     for args in "$cases"/*.args; do
         name=${args##*/}
@@ -33,9 +33,12 @@ try)
         cp "$cases/$name" "$play/given"
         echo "== $name"
         cat "$play/lines"
-        echo "line of $(head -n 1 "$args")"
+        case $PWD in
+        */svsim_watch) echo 'line of watch' && status=$(cat "$play/watch_status") ;;
+        *) echo "line of $(head -n 1 "$args")" && status=$(cat "$play/status") ;;
+        esac
         cat "$play/trouble" >&2
-        echo "case=$name run=ended status=$(cat "$play/status") runners=1 proved=no" >&2
+        echo "case=$name run=ended status=$status runners=1 proved=no" >&2
     done
     echo 'cases=1 ended=1 fault=0 differs=0 no-answer=0 proved=no' >&2 ;;
 esac
@@ -49,6 +52,7 @@ echo one >"$own/version"
 : >"$own/trouble"
 : >"$own/builds"
 echo 0 >"$own/status"
+echo 0 >"$own/watch_status"
 echo 0 >"$own/seconds"
 echo 'steps = []' >"$own/file.toml"
 echo 'a walk' >"$own/tree/examples/first.toml"
@@ -113,7 +117,7 @@ helps 'no command at all' "xyzzyq $own/file.toml" 'svsim help lists the commands
 helps 'a command without a file' run 'svsim help lists the commands'
 helps 'no file' "run $own/none" 'no such file'
 helps 'a folder' "run $own" 'it is a folder'
-echo 3 >"$own/status"
+echo 3 | tee "$own/status" >"$own/watch_status"
 echo 'root = "0x80000"' >"$own/walk.toml"
 echo 'scripts = [[]]' >"$own/live.toml"
 echo 'watch 1 2 sv39' >"$own/run.trace"
@@ -149,7 +153,7 @@ judge 'a trace with a fault' 'line of watch' "$(on_terminal "watch $own/run.trac
 judge 'a fault that check told' 'line of check' "$(on_terminal "check $own/file.toml")"
 "$svsim" run "$own/file.toml" >/dev/null 2>"$own/err"
 judge 'a fault where nobody looks' 0 "$(grep -c 'lists all' "$own/err")"
-echo 0 >"$own/status"
+echo 0 | tee "$own/status" >"$own/watch_status"
 judge 'no fault' 'line of stale' "$(forget; on_terminal "stale $own/file.toml")"
 forget
 : >"$own/builds"
@@ -236,6 +240,24 @@ echo 20 >"$own/seconds"
 "$svsim" watch "$own/file.toml" 2>&1 >/dev/null | tail -n 1 >"$own/err"
 judge 'a build of twenty seconds' 'svsim: 10 seconds so far' "$(cat "$own/err")"
 echo 0 >"$own/seconds"
+
+# A trace: by the smaller program, and where that gives no answer by the whole one
+before=$(builds)
+echo 'one more trace' >"$own/file.trace"
+judge 'a trace' 'line of watch' "$("$svsim" watch "$own/file.trace" 2>/dev/null)"
+judge 'by one build' $((before + 1)) "$(builds)"
+judge 'of the smaller program' svsim_watch "$(tail -n 1 "$own/builds")"
+judge 'the same trace again' 'line of watch' "$("$svsim" watch "$own/file.trace" 2>/dev/null)"
+judge 'is built no more' $((before + 1)) "$(builds)"
+echo 1 >"$own/watch_status"
+echo 'a trace with a verdict' >"$own/file.trace"
+judge 'the status of a verdict' 1 "$("$svsim" watch "$own/file.trace" >/dev/null 2>&1; echo $?)"
+echo 6 >"$own/watch_status"
+echo 'a trace without an answer' >"$own/file.trace"
+judge 'a trace that the smaller program can not hold' 'line of watch' "$("$svsim" watch "$own/file.trace" 2>/dev/null)"
+judge 'is answered by the whole one' 'svsim_watch svsim' "$(tail -n 2 "$own/builds" | tr '\n' ' ' | sed 's/ $//')"
+judge 'with its status' 0 "$("$svsim" watch "$own/file.trace" >/dev/null 2>&1; echo $?)"
+echo 0 >"$own/watch_status"
 
 # The tour
 judge 'the tour shows three examples' 'line of walk line of run line of watch' \

@@ -1,0 +1,43 @@
+#!/usr/bin/env python3
+"""Compares the two programs that judge traces: same_watch.py SVSIM SVSIM_WATCH
+
+On each trace of examples/ and of the lists of cases `svsim watch` and `svsim_watch` write the same, and end with the same status.
+The last line is `N passed, M failed`.
+"""
+import glob, os, subprocess, sys, tempfile
+from cases import cases, read
+
+TOP = os.path.dirname(os.path.dirname(os.path.abspath(__file__)))
+
+
+def traces():
+    """The texts of all traces, each once."""
+    found = [read(path) for path in sorted(glob.glob(f"{TOP}/examples/**/*.trace", recursive=True))]
+    for path in sorted(glob.glob(f"{TOP}/examples/cases/lists/*.txt")):
+        found += [text for _, text, words, _ in cases(path, read(path)) if words == " watch FILE"]
+    return list(dict.fromkeys(found))
+
+
+def answer(words, folder):
+    done = subprocess.run(words, cwd=folder, stdin=subprocess.DEVNULL, capture_output=True)
+    return done.returncode, done.stdout, done.stderr
+
+
+def main(svsim, svsim_watch):
+    passed = failed = 0
+    for text in traces():
+        with tempfile.TemporaryDirectory() as folder:
+            with open(os.path.join(folder, "FILE"), "w", newline="", encoding="utf-8") as file:
+                file.write(text)
+            wanted, got = answer([svsim, "watch", "FILE"], folder), answer([svsim_watch, "FILE"], folder)
+        passed, failed = passed + (got == wanted), failed + (got != wanted)
+        if got != wanted:
+            print(f"FAILED {text[:200]!r}: {got}, not {wanted}")
+    print(f"{passed} passed, {failed} failed")
+    return failed > 0
+
+
+if __name__ == "__main__":
+    if len(sys.argv) != 3 or not all(os.access(it, os.X_OK) for it in sys.argv[1:]):
+        sys.exit(__doc__)
+    sys.exit(main(*map(os.path.abspath, sys.argv[1:])))
