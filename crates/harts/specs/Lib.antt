@@ -4,6 +4,7 @@ pub mod Scripts
 pub mod Turns
 pub mod Free
 pub mod Refused
+pub mod Asks
 pub mod Performs
 pub mod Gates
 pub mod Plays

@@ -17,6 +17,7 @@ mod live_threads;
 mod locked;
 mod named;
 mod reclaim;
+mod shooting;
 
 pub use blank::{Blank, List, Turns};
 pub use board::{Board, HartPort, Mapped, PairReport, Report};
@@ -31,3 +32,4 @@ pub use live_report::{LiveFault, LiveReport};
 pub use locked::{Locked, Tally};
 pub use named::Named;
 pub use reclaim::unmap_and_drop;
+pub use shooting::shoot_down;
