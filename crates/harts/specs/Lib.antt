@@ -2,6 +2,7 @@ pub mod Halves
 pub mod Books
 pub mod Scripts
 pub mod Turns
+pub mod Recordings
 pub mod Free
 pub mod Refused
 pub mod Asks
