@@ -7,6 +7,7 @@ mod accesses;
 mod calls;
 mod results;
 
+pub use bitflags::Flags;
 pub use board::{Board, HartPort, Mapped, PairReport, Report};
 pub use calls::MachineCalls;
 pub use harts::{Blank, Book, Locked, Named, Shared, Tally, run_live, shoot_down, unmap_and_drop};
