@@ -1,6 +1,7 @@
 //! The library: what a caller needs of a machine, of ports on threads, of walks, of tables, and of
 //! text, by one name. A crate that lists `melissaledge` needs no other crate of this repository for
-//! its code. A proof file imports what it cites from the crate that defines it.
+//! its code, but for the watch of traces (`watch_report`). A proof file imports what it cites from the
+//! crate that defines it.
 #![tactic(auto)]
 
 mod accesses;
