@@ -6,5 +6,6 @@ pub mod Woven
 pub mod Freeing
 pub mod Refusing
 pub mod Dropping
+pub mod Asking
 pub mod PlayLemmas
 pub mod Pinned

@@ -2,8 +2,10 @@ pub mod Halves
 pub mod Books
 pub mod Scripts
 pub mod Turns
+pub mod Recordings
 pub mod Free
 pub mod Refused
+pub mod Asks
 pub mod Performs
 pub mod Gates
 pub mod Plays

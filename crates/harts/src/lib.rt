@@ -17,6 +17,8 @@ mod live_threads;
 mod locked;
 mod named;
 mod reclaim;
+mod shared;
+mod shooting;
 
 pub use blank::{Blank, List, Turns};
 pub use board::{Board, HartPort, Mapped, PairReport, Report};
@@ -31,3 +33,5 @@ pub use live_report::{LiveFault, LiveReport};
 pub use locked::{Locked, Tally};
 pub use named::Named;
 pub use reclaim::unmap_and_drop;
+pub use shared::Shared;
+pub use shooting::shoot_down;

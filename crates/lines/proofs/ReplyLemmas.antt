@@ -61,14 +61,11 @@ members_more set h b e =
     ∙ ap (λ last. members_below set h ++ last) (kept_one set h b e)
 
 -- a hart that is in the set is written
-pub hart_in : (set : List Bool) (h : ℕ) (before old new : List ℕ) (is_first : Bool) → contains set h ≡ true → is_first ≡ none_yet (members_below set h)
-    → old ≡ before ++ joined (members_below set h) → new ≡ old ++ next_text is_first h
-    → (new ≡ before ++ joined (members_below set (h + 1))) × (false ≡ none_yet (members_below set (h + 1)))
-hart_in set h before old new is_first there first is e =
-    let harts = members_below set h in
-    let more : members_below set (h + 1) ≡ harts ++ h ∷ [] = members_more set h true there in
-    let text : joined (members_below set (h + 1)) ≡ joined harts ++ next_text (none_yet harts) h = ap joined more ∙ joined_more harts h in (
-      e ∙ rw (is, first) (append_assoc before (joined harts) (next_text (none_yet harts) h)) ∙ ap (λ lines. before ++ lines) (sym text),
+pub hart_in : (set : List Bool) (h : ℕ) (is_first : Bool) → contains set h ≡ true → is_first ≡ none_yet (members_below set h)
+    → (joined (members_below set h) ++ next_text is_first h ≡ joined (members_below set (h + 1))) × (false ≡ none_yet (members_below set (h + 1)))
+hart_in set h is_first there first =
+    let harts = members_below set h in let more : members_below set (h + 1) ≡ harts ++ h ∷ [] = members_more set h true there in (
+      rw first (sym (ap joined more ∙ joined_more harts h)),
       sym (ap none_yet more ∙ none_yet-more harts h),
     )
 

@@ -1,6 +1,6 @@
 -- The lines of `show`. A line is made of columns: each is filled with blanks up to where the next
 -- begins.
-use Rattle.std.specs.Prelude.{ℕ, zero, suc, ◌+◌, ◌-◌, ◌*◌, Bool, ◌==◌, List, [], ◌∷◌, ◌++◌, Option, Some, None, length, replicate, codes, if◌then◌else◌}
+use Rattle.std.specs.Prelude.{ℕ, zero, suc, ◌+◌, ◌-◌, ◌*◌, Bool, ◌==◌, ◌||◌, not, List, [], ◌∷◌, ◌++◌, Option, Some, None, length, replicate, codes, if◌then◌else◌}
 use Rattle.std.specs.Fmt.{decimal}
 use Rattle.pte.specs.declared.address.PageSize.{PageSize}
 use Rattle.pte.specs.declared.address.What.{What}
@@ -9,7 +9,7 @@ use Rattle.pte.specs.declared.permission.Access.{Access}
 use Rattle.pte.specs.declared.permission.Access.TheVariants.{Fetch, Load, Store}
 use Rattle.pte.specs.declared.scheme.Scheme.{Scheme}
 use Rattle.pte.specs.declared.scheme.Scheme.TheVariants.{Sv39, Sv48}
-use Rattle.pte.specs.Entry.{is_accessed, is_dirty, is_global, is_user, may_execute, may_read, may_write}
+use Rattle.pte.specs.Entry.{is_accessed, is_dirty, is_global, is_pointer, is_user, may_execute, may_read, may_write}
 use Rattle.walk.specs.Stage.{Stage}
 use Rattle.tlb.specs.declared.store.Entry.{Entry}
 use Rattle.shoot.specs.Mailbox.{MailboxState, first_waiting}
@@ -105,13 +105,28 @@ service_line number serving =
 abbrev pub letter_if : Bool → List ℕ → List ℕ
 letter_if is_set letter = if is_set then letter else []
 
--- the letters of the flags that are set, but for V, which each leaf has
-abbrev pub flags_text : PteFlags → List ℕ
-flags_text flags =
+-- the letters of the flags that are set, but for V, which each leaf has: the rights, and the others
+abbrev pub rights_text : PteFlags → List ℕ
+rights_text flags =
     letter_if (may_read flags.0) (codes "r") ++ letter_if (may_write flags.0) (codes "w")
-    ++ letter_if (may_execute flags.0) (codes "x") ++ letter_if (is_user flags.0) (codes "u")
-    ++ letter_if (is_global flags.0) (codes "g") ++ letter_if (is_accessed flags.0) (codes "a")
-    ++ letter_if (is_dirty flags.0) (codes "d")
+    ++ letter_if (may_execute flags.0) (codes "x")
+
+abbrev pub uses_text : PteFlags → List ℕ
+uses_text flags =
+    letter_if (is_user flags.0) (codes "u") ++ letter_if (is_global flags.0) (codes "g")
+    ++ letter_if (is_accessed flags.0) (codes "a") ++ letter_if (is_dirty flags.0) (codes "d")
+
+abbrev pub flags_text : PteFlags → List ℕ
+flags_text flags = rights_text flags ++ uses_text flags
+
+-- as a word of a file: `-` where no letter is left
+abbrev pub has_letter : PteFlags → Bool
+has_letter flags =
+    not (is_pointer flags.0)
+    || (is_user flags.0 || (is_global flags.0 || (is_accessed flags.0 || is_dirty flags.0)))
+
+abbrev pub flags_word : PteFlags → List ℕ
+flags_word flags = if has_letter flags then flags_text flags else codes "-"
 
 abbrev pub owner_text : Entry → List ℕ
 owner_text entry = if entry.global then codes "global" else decimal entry.asid

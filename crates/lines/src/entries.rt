@@ -1,31 +1,21 @@
 //! Flags, and the entries of TLBs.
 
 ghost use Rattle.std.specs.Prelude.{◌≡◌, ◌++◌, IfOk, OnOk, string_bytes};
-ghost use Rattle.lines.specs.Rows.{entry_line, flags_text, letter_if, owner_text};
+ghost use Rattle.lines.specs.Rows.{entry_line, flags_text, owner_text};
 
 use crate::columns::pad;
+use crate::printing::Letters;
 use crate::replies::push_page;
 use pte::PteFlags;
 use std::alloc::{AllocError, Global};
 use tlb::Entry;
 
-fn letter(is_set: bool, letter: &'static str) -> &'static str
-    ensures { result.now ≡ letter_if is_set letter.now }
-{
-    if is_set { letter } else { "" }
-}
-
 /// Adds the letters of the flags that are set, of `rwxugad`. V is not among them: each leaf has it.
 pub(crate) fn push_flags(line: &mut String, flags: PteFlags) -> Result<(), AllocError>
     ensures ok { OnOk result (string_bytes line.new ≡ string_bytes line.old ++ flags_text flags) }
 {
-    line.push_str(letter(flags.may_read(), "r"))?;
-    line.push_str(letter(flags.may_write(), "w"))?;
-    line.push_str(letter(flags.may_execute(), "x"))?;
-    line.push_str(letter(flags.is_user(), "u"))?;
-    line.push_str(letter(flags.is_global(), "g"))?;
-    line.push_str(letter(flags.is_accessed(), "a"))?;
-    line.push_str(letter(flags.is_dirty(), "d"))
+    let letters = Letters(flags);
+    write!(line, "{letters}")
 }
 
 /// Adds the ASID of an entry, or that it is global.

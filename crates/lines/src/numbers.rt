@@ -7,7 +7,7 @@ use std::alloc::AllocError;
 use std::str::from_utf8;
 
 /// As many hexadecimal digits as a number of 64 bits has at most.
-const MOST_DIGITS: usize = 16;
+pub(crate) const MOST_DIGITS: usize = 16;
 
 /// The hexadecimal digit of a number below 16.
 #[inline(always)]
@@ -20,7 +20,7 @@ fn digit(n: u64) -> u8
 }
 
 /// Writes the digits to the end of the buffer, and returns where they begin.
-fn write_hexadecimal(n: u64, buffer: &mut [u8; MOST_DIGITS]) -> usize
+pub(crate) fn write_hexadecimal(n: u64, buffer: &mut [u8; MOST_DIGITS]) -> usize
     ensures start { result ≤ 16 }
     ensures digits { drop result buffer.new ≡ digits 16 false n }
     ensures text { IsUtf8 (digits 16 false n) }

@@ -1,6 +1,6 @@
 //! Tests of page tables, of the machine and its parts (TLBs, mailboxes, tickets), of what shares it
 //! behind a lock, and of the watch of traces, by calls that anybody can make. docs/LIBRARY.md shows
-//! parts of the three modules whose names begin with `first`.
+//! parts of the modules whose names begin with `first`.
 #![tactic(auto)]
 
 #[cfg(test)]
@@ -16,7 +16,11 @@ mod entries;
 #[cfg(test)]
 mod faults;
 #[cfg(test)]
+mod first_calls;
+#[cfg(test)]
 mod first_machine;
+#[cfg(test)]
+mod first_shared;
 #[cfg(test)]
 mod first_steps;
 #[cfg(test)]

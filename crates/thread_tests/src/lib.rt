@@ -39,6 +39,8 @@ mod seats;
 #[cfg(test)]
 mod senders;
 #[cfg(test)]
+mod shot_down;
+#[cfg(test)]
 mod staleness;
 #[cfg(test)]
 mod steps;
