@@ -1,5 +1,6 @@
 //! What is open while a run is recorded, hart by hart.
 
+use crate::fills::Fills;
 use crate::lanes::Lanes;
 use crate::layout::Column;
 use crate::record::{Arrow, Bar, Message, Span};
@@ -39,17 +40,20 @@ pub struct Held {
     pub entry: Entry,
     pub page: Page,
     pub first: u32,
+    /// Since which row the TLB held it and it was valid.
+    pub valid: Option<u32>,
     /// The number of the page of 4 KiB that was found to be stale last.
     pub found: u64,
 }
 
 impl Held {
     /// What a TLB holds by an entry since it became stale in a page.
-    pub fn new(entry: Entry, page: Page, first: u32) -> Held {
+    pub fn new(entry: Entry, page: Page, first: u32, valid: Option<u32>) -> Held {
         Held {
             entry,
             page,
             first,
+            valid,
             found: page.base().get() / PAGE_BYTES,
         }
     }
@@ -74,8 +78,7 @@ pub struct Track {
     pub flights: Lanes<Flight>,
     pub orders: Lanes<OpenOrder>,
     pub stale: Lanes<Held>,
-    /// How many characters the longest text of its steps has.
-    pub characters: usize,
+    pub fills: Fills,
     /// How many characters the longest label of its stale mappings has.
     pub label: usize,
 }
@@ -94,18 +97,18 @@ impl Track {
             flights: Lanes::new(alloc),
             orders: Lanes::new(alloc),
             stale: Lanes::new(alloc),
-            characters: 0,
+            fills: Fills::new(),
             label: 0,
         }
     }
 
-    /// The column that has room for all that was open.
-    pub fn column(&self, left: u32) -> Column {
+    /// The column that has room for all that was open, and for texts of this many characters.
+    pub fn column(&self, left: u32, characters: usize) -> Column {
         Column {
             left,
             flights: self.flights.count(),
             orders: self.orders.count(),
-            characters: short(self.characters),
+            characters: short(characters),
             stale: self.stale.count(),
             label: short(self.label),
         }
@@ -160,7 +163,7 @@ impl Track {
         let Some(flight) = self.flights.get(lane) else {
             return Ok(());
         };
-        self.flights.close(lane);
+        self.flights.close(lane, last);
         Ok(arrows.push(Arrow {
             message: flight.message,
             sender: flight.sender,
@@ -250,7 +253,7 @@ impl Track {
         let Some(order) = self.orders.get(lane) else {
             return Ok(());
         };
-        self.orders.close(lane);
+        self.orders.close(lane, last);
         Ok(bars.push(Bar {
             span: Span::Order {
                 ticket: order.ticket,
@@ -288,11 +291,13 @@ impl Track {
         let Some(held) = self.stale.get(lane) else {
             return Ok(());
         };
-        self.stale.close(lane);
+        self.stale.close(lane, last);
+        self.fills.restore(&held.entry, last);
         Ok(bars.push(Bar {
             span: Span::Stale {
                 page: held.page,
                 ppn: held.ppn(),
+                valid: held.valid,
             },
             hart,
             lane,

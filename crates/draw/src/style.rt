@@ -7,6 +7,7 @@ text{font:11.5px ui-monospace,SFMono-Regular,Menlo,Consolas,'DejaVu Sans Mono',m
 paint-order:stroke;stroke:#fff;stroke-width:3px;stroke-linejoin:round}
 .paper{fill:#fff}
 .title{font-size:15px;font-weight:bold}
+.subtitle,.note,.remark{fill:#59636e}
 .head{fill:#e6eaef}
 .hart{font-weight:bold;stroke:none}
 .side{stroke:#9aa4af}
@@ -28,6 +29,9 @@ paint-order:stroke;stroke:#fff;stroke-width:3px;stroke-linejoin:round}
 .hatch-paper{fill:#fdeceb}
 .hatch-line{fill:#e9a7a2}
 .mapping{font-weight:bold;fill:#8c1d18}
+.life{fill:none;stroke:#59636e}
+.end,.end-mark{stroke:#59636e;stroke-width:1.5}
+.end{stroke-dasharray:2 2}
 .hit{fill:none;stroke:#b3261e;stroke-width:2.5}
 .hit-words{font-weight:bold;fill:#8c1d18}
 .hit-line{stroke:#b3261e;stroke-width:2.5}
@@ -38,7 +42,7 @@ text{fill:#e6edf3;stroke:#0d1117}
 .head{fill:#262d36}
 .side{stroke:#57606a}
 .row{stroke:#30363d}
-.number{fill:#9198a1}
+.number,.subtitle,.note,.remark{fill:#9198a1}
 .refused{fill:#d9bf77}
 .walk{fill:#0d1117;stroke:#6cb6ff}
 .service{fill:#3fb950;stroke:#3fb950}
@@ -53,6 +57,7 @@ text{fill:#e6edf3;stroke:#0d1117}
 .hatch-paper{fill:#3a1412}
 .hatch-line{fill:#7d2a25}
 .mapping,.hit-words{fill:#ffb1ab}
+.life,.end,.end-mark{stroke:#9198a1}
 .hit,.hit-line{stroke:#ff7b72}
 .hit-dot{fill:#ff7b72}
 }
