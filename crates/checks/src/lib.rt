@@ -24,3 +24,4 @@ pub use commands::command_of;
 pub use files::Command;
 pub use laws::{near_words_are_edited_ones, no_word_is_its_own_swap, worked_swaps};
 pub use near::{is_near, is_swap, nearest};
+pub use places::{Mark, Place};

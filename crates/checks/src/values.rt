@@ -49,7 +49,23 @@ impl<'a> Document<'a> {
             (λ number. IsKeyLine self.now.text.now (name_of key) number) }
         ensures still_short { IsStillTrue report.old.is_out_of_memory report.new.is_out_of_memory }
     {
-        Place::of_key(report, self.text, key.name())
+        self.place_of_name(report, key.name())
+    }
+
+    /// Where a key of this name, known or not, stands in the text; nowhere if there was not enough
+    /// memory.
+    fn place_of_name(&self, report: &mut Report, name: &str) -> Place
+        ensures line { IfSome result.line
+            (λ number. IsKeyLine self.now.text.now name.now number) }
+        ensures still_short { IsStillTrue report.old.is_out_of_memory report.new.is_out_of_memory }
+    {
+        match Place::of_key(report.alloc, self.text, name) {
+            Ok(place) => place,
+            Err(error) => {
+                report.note(Err(error));
+                Place::unknown(report.alloc)
+            }
+        }
     }
 
     /// Reports what is wrong with a key.
@@ -63,7 +79,7 @@ impl<'a> Document<'a> {
     pub fn tell_of_name(&self, report: &mut Report, name: &str, what: &[Piece<'_>])
         ensures { IsStillTrue report.old.is_out_of_memory report.new.is_out_of_memory }
     {
-        let line = Place::of_key(report, self.text, name).line;
+        let line = self.place_of_name(report, name).line;
         let place = [Piece::Text("key "), Piece::Word(name), Piece::Text(": ")];
         report.tell(
             Spot {
