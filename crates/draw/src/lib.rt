@@ -7,6 +7,7 @@
 
 mod bars;
 mod comments;
+mod file_comments;
 mod fills;
 mod heading;
 mod lanes;

@@ -5,6 +5,7 @@ ghost use Rattle.files.specs.declared.fault.Fault.TheVariants.{NoMemory};
 
 use crate::bars::{push_bar, push_flight, push_hit};
 use crate::comments::Comments;
+use crate::file_comments::comments_of;
 use crate::heading::{Heading, push_plain};
 use crate::layout::{
     CHAR_WIDTH, Column, ENTRY_HEIGHT, HEAD_HEIGHT, LEAST_WIDTH, Point, ROW_HEIGHT, ROWS_A_HEAD,
@@ -298,8 +299,8 @@ pub fn draw_text(alloc: Global, scenario: &RunScenario) -> Result<String, Fault>
 }
 
 /// The picture of the run of a file, of which this is the name and this the text that the scenario
-/// was read from: as `draw_text`, with the first sentence of the comment at its head as a title and
-/// below that the last component of the name. An error comes only if there is no memory.
+/// was read from: as `draw_text`, with the first sentence of the comment at its head as a title,
+/// below that the last component of the name, and the comments at the steps. An error comes only if there is no memory.
 pub fn draw_file(
     alloc: Global,
     name: &str,
@@ -308,7 +309,7 @@ pub fn draw_file(
 ) -> Result<String, Fault>
     ensures { IfErr result (λ fault. fault ≡ NoMemory) }
 {
-    let record = record(alloc, scenario, Comments::none(alloc))?;
+    let record = record(alloc, scenario, comments_of(alloc, text)?)?;
     let mut heading = Heading::new(alloc);
     heading.describe(name, text, record.columns.len(), record.rows.len())?;
     Ok(write(alloc, &record, &heading)?)
