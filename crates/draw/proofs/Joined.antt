@@ -69,22 +69,22 @@ pub text_is : (svg class words : List ℕ) (x y : ℕ) → text_pieces svg (text
 text_is svg class words x y = text_in_pieces svg class words x y ∙ sym (text_in_shapes svg class words x y)
 
 -- what is written of a head
-abbrev pub hart_pieces : List ℕ → ℕ → List ℕ → ℕ → List ℕ
-hart_pieces svg x y n =
+abbrev pub hart_pieces : List ℕ → ℕ → List ℕ → ℕ → ℕ → List ℕ
+hart_pieces svg x y n space =
     svg ++ pair (codes "<text class='hart' x='") (decimal x) ++ pair (codes "' y='") y ++ pair (codes "'>hart ") (decimal n)
-    ++ codes "</text>\n"
+    ++ pair (codes ", space ") (decimal space) ++ codes "</text>\n"
 
-abbrev hart_at : List ℕ → ℕ → ℕ → ℕ → List ℕ
-hart_at svg x y n =
+abbrev hart_at : List ℕ → ℕ → ℕ → ℕ → ℕ → List ℕ
+hart_at svg x y n space =
     svg ++ (codes "<text class='hart' x='" ++ (decimal x ++ (codes "' y='" ++ (decimal y
-    ++ (codes "'>hart " ++ (decimal n ++ codes "</text>\n"))))))
+    ++ (codes "'>hart " ++ (decimal n ++ (codes ", space " ++ (decimal space ++ codes "</text>\n"))))))))
 
-hart_in_pieces : (svg : List ℕ) (x y n : ℕ) → hart_pieces svg x (decimal y) n ≡ hart_at svg x y n
+hart_in_pieces : (svg : List ℕ) (x y n space : ℕ) → hart_pieces svg x (decimal y) n space ≡ hart_at svg x y n space
 unfolding pair
-hart_in_pieces svg x y n = simp (append_assoc) refl
+hart_in_pieces svg x y n space = simp (append_assoc) refl
 
-hart_in_shapes : (svg : List ℕ) (x y n : ℕ) → with_hart svg (record { x = x; y = y }) n ≡ hart_at svg x y n
-hart_in_shapes svg x y n = simp (append_assoc, after_is, opening_is) refl
+hart_in_shapes : (svg : List ℕ) (x y n space : ℕ) → with_hart svg (record { x = x; y = y }) n space ≡ hart_at svg x y n space
+hart_in_shapes svg x y n space = simp (append_assoc, after_is, opening_is) refl
 
-pub hart_is : (svg : List ℕ) (x y n : ℕ) → hart_pieces svg x (decimal y) n ≡ with_hart svg (record { x = x; y = y }) n
-hart_is svg x y n = hart_in_pieces svg x y n ∙ sym (hart_in_shapes svg x y n)
+pub hart_is : (svg : List ℕ) (x y n space : ℕ) → hart_pieces svg x (decimal y) n space ≡ with_hart svg (record { x = x; y = y }) n space
+hart_is svg x y n space = hart_in_pieces svg x y n space ∙ sym (hart_in_shapes svg x y n space)

@@ -25,7 +25,8 @@ with_row svg right y first last =
     ++ text_begin (codes "number") (record { x = 78; y = y + 4 }) ++ numbers first last
     ++ codes "</text>\n"
 
--- a picture, and behind it the head of a hart's column
-abbrev pub with_hart : List ℕ → Point → ℕ → List ℕ
-with_hart svg at hart =
-    svg ++ text_begin (codes "hart") at ++ codes "hart " ++ decimal hart ++ codes "</text>\n"
+-- a picture, and behind it the head of a hart's column, with its space
+abbrev pub with_hart : List ℕ → Point → ℕ → ℕ → List ℕ
+with_hart svg at hart space =
+    svg ++ text_begin (codes "hart") at ++ codes "hart " ++ decimal hart ++ codes ", space "
+    ++ decimal space ++ codes "</text>\n"

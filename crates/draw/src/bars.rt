@@ -3,12 +3,12 @@
 ghost use Rattle.std.specs.Prelude.{◌<◌, ◌^◌};
 
 use crate::layout::{Column, Point, ROW_HEIGHT, ROWS_A_HEAD, heads_above, row_middle, row_top};
-use crate::record::{Arrow, Bar, Line, Message, Record, Span, StaleHit};
+use crate::record::{Arrow, Bar, Line, Message, Record, SecondOwner, Span, StaleHit};
 use crate::rows::push_words;
-use crate::run::push_mapping;
 use crate::shapes::{
     Area, push_arrow, push_dot, push_end, push_full_head, push_line, push_open_head, push_rect,
 };
+use crate::step_words::push_mapping;
 use itoa::Buffer;
 use std::alloc::AllocError;
 
@@ -55,17 +55,18 @@ fn push_span(
     )
 }
 
-/// Adds the label of a bar: in its first line, and below each line of heads.
+/// Adds the label of a bar: in a line at its beginning, and below each line of heads.
 fn push_labels(
     svg: &mut String,
     opening: &str,
     x: u64,
     lines: Lines,
+    first: u32,
     label: &str,
 ) -> Result<(), AllocError> {
     let mut digits = Buffer::new();
     let x = digits.format(x);
-    push_words(svg, opening, x, row_middle(lines.first) + 4, label)?;
+    push_words(svg, opening, x, row_middle(first) + 4, label)?;
     for heads in heads_above(lines.first)..heads_above(lines.last) {
         let line = heads.saturating_mul(ROWS_A_HEAD);
         push_words(svg, opening, x, row_middle(line) + 4, label)?;
@@ -93,6 +94,7 @@ fn push_order(
         "<text class='ticket' x='",
         x + 7,
         lines,
+        lines.first,
         digits.format(ticket),
     )
 }
@@ -147,6 +149,17 @@ fn push_ended(
     push_end(svg, Point { x: from, y }, Point { x: to, y })
 }
 
+/// The line for the label of a bar: the first, or the next one, if a text runs over the bar in that.
+fn label_line(record: &Record, bar: &Bar, x: u64, lines: Lines) -> u32 {
+    match record.text_of(bar.first) {
+        Some((line, column))
+            if column.text_x() <= x && line.end_x(column) > x && lines.first < lines.last => {
+            lines.first.saturating_add(1)
+        }
+        _ => lines.first,
+    }
+}
+
 /// Adds the bar of a stale mapping, its label, and the lines from where it became valid and to what
 /// ended it.
 fn push_stale(
@@ -169,7 +182,8 @@ fn push_stale(
     if bar.has_end {
         push_ended(svg, record, bar, x, x + width)?;
     }
-    push_labels(svg, "<text class='mapping' x='", x + 5, lines, label)
+    let first = label_line(record, bar, x, lines);
+    push_labels(svg, "<text class='mapping' x='", x + 5, lines, first, label)
 }
 
 /// Adds a bar. `scratch` is for its label.
@@ -190,9 +204,14 @@ pub fn push_bar(
             let done = done.map(|row| record.line(row));
             push_order(svg, column.order_x(bar.lane), lines, ticket, done)
         }
-        Span::Stale { page, ppn, valid } => {
+        Span::Stale {
+            page,
+            ppn,
+            valid,
+            is_named,
+        } => {
             scratch.clear();
-            push_mapping(scratch, page, ppn)?;
+            push_mapping(scratch, page, ppn, is_named)?;
             let x = column.stale_x(bar.lane);
             let width = column.stale_width();
             push_stale(svg, record, bar, x, width, valid, scratch.as_str())
@@ -257,6 +276,60 @@ pub fn push_flight(svg: &mut String, record: &Record, arrow: &Arrow) -> Result<(
     push_message(svg, arrow, from, turn, to)
 }
 
+/// Adds an outline round the text of a step.
+fn push_outline(
+    svg: &mut String,
+    class: &str,
+    column: &Column,
+    number: u32,
+    line: &Line,
+) -> Result<(), AllocError> {
+    let left = column.text_x() - 4;
+    let right = line.text_end(column) + 4;
+    push_rect(
+        svg,
+        class,
+        &Area {
+            at: Point {
+                x: left,
+                y: row_middle(number) - 9,
+            },
+            width: right.saturating_sub(left),
+            height: 18,
+        },
+    )
+}
+
+/// Adds the mark of a step that maps a frame which a stale mapping reaches, unless it has it, and
+/// the line to the bar of that.
+pub fn push_owner(
+    svg: &mut String,
+    record: &Record,
+    owner: &SecondOwner,
+    is_marked: bool,
+) -> Result<(), AllocError> {
+    let Some((line, column)) = record.text_of(owner.row) else {
+        return Ok(());
+    };
+    let number = record.line(owner.row);
+    if !is_marked {
+        push_outline(svg, "given", column, number, line)?;
+    }
+    let Some(holder) = record.columns.get(usize::from(owner.hart)) else {
+        return Ok(());
+    };
+    let y = row_middle(number);
+    let x = holder.stale_x(owner.lane);
+    let begins = line.end_x(column) + 4;
+    let (from, to) = if x + holder.stale_width() < column.doing_x() {
+        (column.text_x() - 4, x + holder.stale_width() - 6)
+    } else {
+        (begins.min(x + 6), x + 6)
+    };
+    push_line(svg, "given-line", Point { x: from, y }, Point { x: to, y })?;
+    push_dot(svg, "given-dot", Point { x: to, y })
+}
+
 /// Adds the mark of an access that was answered by a stale mapping, and the line to the bar of that.
 /// It stands in the line of this number.
 pub fn push_hit(
@@ -267,17 +340,7 @@ pub fn push_hit(
     line: &Line,
 ) -> Result<(), AllocError> {
     let y = row_middle(number);
-    let left = column.text_x() - 4;
-    let right = column.text_end(line.characters()) + 4;
-    push_rect(
-        svg,
-        "hit",
-        &Area {
-            at: Point { x: left, y: y - 9 },
-            width: right.saturating_sub(left),
-            height: 18,
-        },
-    )?;
+    push_outline(svg, "hit", column, number, line)?;
     let Some(lane) = hit.lane else {
         return Ok(());
     };
@@ -286,7 +349,7 @@ pub fn push_hit(
         y,
     };
     let from = Point {
-        x: to.x.min(line.end_x(column) + 4),
+        x: to.x.min(line.text_end(column) + 4),
         y,
     };
     push_line(svg, "hit-line", from, to)?;

@@ -25,8 +25,8 @@ pub const FIRST_COLUMN: u32 = 90;
 /// How wide a picture is at least: as wide as the legend.
 pub const LEAST_WIDTH: u64 = 690;
 
-/// How wide a picture is at most for the sake of texts that run over their column.
-pub const TEXT_WIDTH: u64 = 1800;
+/// How wide a picture is at most, unless it has so many columns or a longer text of a step.
+pub const PAGE_WIDTH: u64 = 1800;
 
 /// How wide a character of the title is at most.
 pub const TITLE_CHAR_WIDTH: u64 = 10;

@@ -24,10 +24,12 @@ pub enum Kind {
     Life,
     End,
     Hit,
+    SecondOwner,
+    Space,
 }
 
 /// The kinds, in the order of the legend.
-pub const KINDS: [Kind; 9] = [
+pub const KINDS: [Kind; 11] = [
     Kind::Walk,
     Kind::Service,
     Kind::Order,
@@ -37,6 +39,8 @@ pub const KINDS: [Kind; 9] = [
     Kind::Life,
     Kind::End,
     Kind::Hit,
+    Kind::SecondOwner,
+    Kind::Space,
 ];
 
 /// What a kind of shape stands for.
@@ -58,6 +62,10 @@ fn words_of(kind: Kind) -> &'static str {
             "the TLB holds this page with this frame, as the tables map it: since the fill",
         Kind::End => "the step that ends a stale mapping, with a line to it",
         Kind::Hit => "an access that is answered by a stale mapping, with a line to it",
+        Kind::SecondOwner => {
+            "a frame is mapped elsewhere while a TLB can still reach it, with a line to what reaches it"
+        }
+        Kind::Space => "the tint of a column: the space that its hart is in",
     }
 }
 
@@ -124,6 +132,12 @@ fn push_sample(svg: &mut String, kind: Kind, y: u64) -> Result<(), AllocError>
         Kind::Life => push_life(svg, y),
         Kind::End => push_end(svg, from, to),
         Kind::Hit => push_bar(svg, "hit", LEFT, y, 46),
+        Kind::SecondOwner => push_bar(svg, "given", LEFT, y, 46),
+        Kind::Space => {
+            push_bar(svg, "tint-0", LEFT, y, 23)?;
+            push_bar(svg, "tint-1", LEFT + 23, y, 23)?;
+            push_bar(svg, "swatch", LEFT, y, 46)
+        }
     }
 }
 

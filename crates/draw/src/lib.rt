@@ -6,6 +6,7 @@
 #![tactic(auto)]
 
 mod bars;
+mod columns;
 mod comments;
 mod file_comments;
 mod fills;
@@ -13,6 +14,7 @@ mod heading;
 mod lanes;
 mod layout;
 mod legend;
+mod owners;
 mod picture;
 mod record;
 mod recorder;
@@ -22,6 +24,7 @@ mod shapes;
 mod sheet;
 mod step_words;
 mod style;
+mod tints;
 
 pub use layout::{
     Column, FIRST_COLUMN, HEAD_HEIGHT, LEAST_WIDTH, Point, ROW_HEIGHT, ROWS_A_HEAD, entry_middle,

@@ -3,20 +3,21 @@
 ghost use Rattle.std.specs.Prelude.{◌≡◌, ◌<◌, ◌^◌, IfErr};
 ghost use Rattle.files.specs.declared.fault.Fault.TheVariants.{NoMemory};
 
-use crate::bars::{push_bar, push_flight, push_hit};
+use crate::bars::{push_bar, push_flight, push_hit, push_owner};
 use crate::comments::Comments;
 use crate::file_comments::comments_of;
 use crate::heading::{Heading, push_plain};
 use crate::layout::{
-    CHAR_WIDTH, Column, ENTRY_HEIGHT, HEAD_HEIGHT, LEAST_WIDTH, Point, ROW_HEIGHT, ROWS_A_HEAD,
-    TEXT_WIDTH, TITLE_CHAR_WIDTH, entry_middle, row_middle, row_top,
+    CHAR_WIDTH, Column, ENTRY_HEIGHT, HEAD_HEIGHT, LEAST_WIDTH, PAGE_WIDTH, Point, ROW_HEIGHT,
+    ROWS_A_HEAD, TITLE_CHAR_WIDTH, entry_middle, row_middle, row_top,
 };
 use crate::legend::{KINDS, push_entry};
-use crate::record::{Line, LineKind, Record, StaleHit};
+use crate::record::{Line, LineKind, Record};
 use crate::rows::{push_hart, push_row, push_words};
 use crate::run::record;
 use crate::shapes::{Area, push_escaped, push_line, push_rect, push_text};
 use crate::style::STYLE;
+use crate::tints::{Spaces, push_tints};
 use files::{Fault, RunScenario};
 use itoa::Buffer;
 use std::alloc::{AllocError, Global};
@@ -35,24 +36,29 @@ struct Picture {
     bottom: u64,
 }
 
-/// How the text of a line begins that no stale mapping answered.
+/// How the text of a line begins.
 fn opening_of(line: &Line) -> &'static str {
     match line.kind {
         LineKind::Note => "<text class='note' x='",
         LineKind::Step => "<text class='step' x='",
         LineKind::RefusedStep => "<text class='refused' x='",
+        LineKind::HitStep => "<text class='hit-words' x='",
     }
 }
 
-/// Where the longest text of a record ends.
-fn longest_end(record: &Record) -> u64 {
-    let mut end = 0;
+/// How wide the texts of a record are: those of steps whole, and comments behind them as far as a
+/// page is wide.
+fn texts_width(record: &Record) -> u64 {
+    let mut width = record.labels_end;
     for line in record.sheet.lines.as_slice() {
-        if line.kind != LineKind::Note {
-            end = record.end_x(line).max(end);
+        if let Some(column) = record.columns.get(usize::from(line.hart)) {
+            if line.kind != LineKind::Note {
+                let end = line.end_x(column).min(PAGE_WIDTH - 20);
+                width = width.max(end).max(line.text_end(column));
+            }
         }
     }
-    end
+    width
 }
 
 /// How many entries the legend of a picture has.
@@ -74,7 +80,7 @@ impl Picture {
             None => 0,
         };
         let title = u64::from(characters) * TITLE_CHAR_WIDTH + 32;
-        let texts = longest_end(record).saturating_add(24).min(TEXT_WIDTH);
+        let texts = texts_width(record).saturating_add(20);
         Picture {
             svg: String::new(alloc),
             scratch: String::new(alloc),
@@ -120,7 +126,12 @@ impl Picture {
     }
 
     /// Adds a line of heads, above a row.
-    fn push_heads(&mut self, columns: &[Column], row: u32) -> Result<(), AllocError> {
+    fn push_heads(
+        &mut self,
+        columns: &[Column],
+        row: u32,
+        spaces: &Spaces<'_>,
+    ) -> Result<(), AllocError> {
         let bottom = row_top(row);
         let top = bottom - HEAD_HEIGHT;
         push_rect(
@@ -134,9 +145,10 @@ impl Picture {
         )?;
         let mut digits = Buffer::new();
         let y = digits.format(top + 17);
-        let mut hart: u64 = 0;
+        let mut hart: u8 = 0;
         for column in columns {
-            push_hart(&mut self.svg, column.text_x(), y, hart)?;
+            let space = u64::from(spaces.of_hart(hart));
+            push_hart(&mut self.svg, column.text_x(), y, u64::from(hart), space)?;
             hart = hart.saturating_add(1);
         }
         Ok(())
@@ -153,10 +165,12 @@ impl Picture {
     fn push_rows(&mut self, record: &Record) -> Result<(), AllocError> {
         let mut digits = Buffer::new();
         let right = digits.format(self.width);
+        let mut spaces = Spaces::new(record);
         let mut number: u32 = 0;
         for line in record.sheet.lines.as_slice() {
             if number % ROWS_A_HEAD == 0 {
-                self.push_heads(record.columns.as_slice(), number)?;
+                spaces.go_to(number);
+                self.push_heads(record.columns.as_slice(), number, &spaces)?;
             }
             if line.kind != LineKind::Note {
                 self.push_line(right, number, line)?;
@@ -183,7 +197,7 @@ impl Picture {
         number: u32,
         words: &str,
     ) -> Result<(), AllocError> {
-        let room = self.width.saturating_sub(x).saturating_sub(24) / CHAR_WIDTH;
+        let room = self.width.saturating_sub(x).saturating_sub(20) / CHAR_WIDTH;
         let most = usize::try_from(room).unwrap_or(usize::MAX);
         self.scratch.clear();
         push_plain(&mut self.scratch, words, most)?;
@@ -196,40 +210,37 @@ impl Picture {
         )
     }
 
-    /// Adds the text of a step, and the mark of one that was answered by a stale mapping. It answers
-    /// whether it was.
+    /// Adds the text of a step.
     fn push_step(
         &mut self,
         column: &Column,
         line: &Line,
         number: u32,
         words: &str,
-        hit: Option<&StaleHit>,
-    ) -> Result<bool, AllocError> {
-        let mut opening = opening_of(line);
-        let mut is_hit = false;
-        if let Some(hit) = hit {
-            is_hit = hit.row == line.first;
-            if is_hit {
-                push_hit(&mut self.svg, column, hit, number, line)?;
-                opening = "<text class='hit-words' x='";
-            }
-        }
+    ) -> Result<(), AllocError> {
         push_words(
             &mut self.svg,
-            opening,
+            opening_of(line),
             Buffer::new().format(column.text_x()),
             row_middle(number) + 4,
             words,
-        )?;
-        Ok(is_hit)
+        )
     }
 
-    /// Adds the texts of the lines, and the marks of steps that were answered by a stale mapping.
+    /// Adds the marks of accesses that stale mappings answered.
+    fn push_hits(&mut self, record: &Record) -> Result<(), AllocError> {
+        for hit in record.hits.as_slice() {
+            if let Some((line, column)) = record.text_of(hit.row) {
+                push_hit(&mut self.svg, column, hit, record.line(hit.row), line)?;
+            }
+        }
+        Ok(())
+    }
+
+    /// Adds the texts of the lines.
     fn push_texts(&mut self, record: &Record) -> Result<(), AllocError> {
         let mut texts = record.sheet.texts.as_str();
         let mut number: u32 = 0;
-        let mut next_hit: usize = 0;
         for line in record.sheet.lines.as_slice() {
             let Some((words, rest)) = texts.split_at_checked(line.length) else {
                 return Ok(());
@@ -240,10 +251,7 @@ impl Picture {
             if line.kind == LineKind::Note {
                 self.push_comment(opening_of(line), NOTE_X, number, words)?;
             } else if let Some(column) = record.columns.get(usize::from(line.hart)) {
-                let hit = record.hits.get(next_hit);
-                if self.push_step(column, line, number, words, hit)? {
-                    next_hit = next_hit.saturating_add(1);
-                }
+                self.push_step(column, line, number, words)?;
                 if !remark.is_empty() {
                     let opening = "<text class='remark' x='";
                     self.push_comment(opening, line.remark_x(column), number, remark)?;
@@ -251,6 +259,17 @@ impl Picture {
             }
             texts = rest;
             number = number.saturating_add(1);
+        }
+        Ok(())
+    }
+
+    /// Adds the marks of second owners.
+    fn push_owners(&mut self, record: &Record) -> Result<(), AllocError> {
+        let mut marked: Option<u32> = None;
+        for owner in record.owners.as_slice() {
+            let is_marked = marked == Some(owner.row);
+            push_owner(&mut self.svg, record, owner, is_marked)?;
+            marked = Some(owner.row);
         }
         Ok(())
     }
@@ -274,6 +293,7 @@ fn write(alloc: Global, record: &Record, heading: &Heading) -> Result<String, Al
     let characters = u16::try_from(heading.title.len()).unwrap_or(u16::MAX);
     let mut picture = Picture::new(alloc, record, characters);
     picture.push_front(record, heading)?;
+    push_tints(&mut picture.svg, record, picture.width)?;
     picture.push_rows(record)?;
     for bar in record.bars.as_slice() {
         push_bar(&mut picture.svg, &mut picture.scratch, record, bar)?;
@@ -281,6 +301,8 @@ fn write(alloc: Global, record: &Record, heading: &Heading) -> Result<String, Al
     for arrow in record.arrows.as_slice() {
         push_flight(&mut picture.svg, record, arrow)?;
     }
+    picture.push_owners(record)?;
+    picture.push_hits(record)?;
     picture.push_texts(record)?;
     picture.push_legend(record)?;
     picture.svg.push_str("</svg>\n")?;

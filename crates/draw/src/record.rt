@@ -22,12 +22,15 @@ pub enum Span {
         ticket: u32,
         done: Option<u32>,
     },
-    /// A mapping that a TLB holds while the tables do not map it so: a page, the PPN for it, and the
-    /// row since which the TLB held it and it was valid.
+    /// A mapping that a TLB holds while the tables do not map it so.
     Stale {
         page: Page,
+        /// The PPN for the page.
         ppn: u64,
+        /// The row since which the TLB held it and it was valid.
         valid: Option<u32>,
+        /// Whether the order that the step opened which made it stale names the hart.
+        is_named: bool,
     },
 }
 
@@ -98,6 +101,23 @@ pub struct Row {
     pub line: u32,
 }
 
+/// A step that maps a frame which a TLB can reach by a stale mapping, in another place.
+#[derive(Clone, Copy)]
+pub struct SecondOwner {
+    pub row: u32,
+    /// The hart of that TLB, and the lane of the mapping's bar.
+    pub hart: u8,
+    pub lane: u16,
+}
+
+/// A step by which a hart goes to another space.
+#[derive(Clone, Copy)]
+pub struct Switch {
+    pub row: u32,
+    pub hart: u8,
+    pub space: u8,
+}
+
 /// What a line of the picture has.
 #[derive(Clone, Copy, PartialEq, Eq)]
 pub enum LineKind {
@@ -105,6 +125,8 @@ pub enum LineKind {
     Note,
     Step,
     RefusedStep,
+    /// An access that was answered by a stale mapping.
+    HitStep,
 }
 
 /// A line of the picture: the steps of a hart from one row to another, how many characters their
@@ -125,34 +147,51 @@ impl Line {
         u16::try_from(self.length).unwrap_or(u16::MAX)
     }
 
-    /// Where the comment behind the text begins.
-    pub fn remark_x(&self, column: &Column) -> u64
-        ensures bound { result < 2 ^ 43 }
+    /// Where the text ends.
+    pub fn text_end(&self, column: &Column) -> u64
+        ensures bound { result < 2 ^ 42 }
     {
-        column.text_end(self.characters()) + REMARK_GAP
+        column.text_end(self.characters())
+    }
+
+    /// Where the comment behind the text begins: behind the column, if a line goes to a bar in it.
+    pub fn remark_x(&self, column: &Column) -> u64
+        ensures bound { result < 2 ^ 62 }
+    {
+        let behind = self.text_end(column) + REMARK_GAP;
+        if self.kind == LineKind::HitStep {
+            behind.max(column.right() + 6)
+        } else {
+            behind
+        }
     }
 
     /// Where the text ends, with the comment behind it.
     pub fn end_x(&self, column: &Column) -> u64
-        ensures bound { result < 2 ^ 44 }
+        ensures bound { result < 2 ^ 63 }
     {
         if self.remark == 0 {
-            return column.text_end(self.characters());
+            return self.text_end(column);
         }
         let characters = u16::try_from(self.remark).unwrap_or(u16::MAX);
         self.remark_x(column) + u64::from(characters) * CHAR_WIDTH
     }
 }
 
-/// A run as it was recorded. Bars, arrows and hits are in the order in which they ended.
+/// A run as it was recorded. Bars, arrows and hits are in the order in which they ended, second
+/// owners and switches in that of their rows.
 #[derive(Drop)]
 pub struct Record {
     pub columns: Vec<Column>,
+    /// Where the labels of bars end on the right.
+    pub labels_end: u64,
     pub rows: Vec<Row>,
     pub sheet: Sheet,
     pub bars: Vec<Bar>,
     pub arrows: Vec<Arrow>,
     pub hits: Vec<StaleHit>,
+    pub owners: Vec<SecondOwner>,
+    pub switches: Vec<Switch>,
 }
 
 impl Record {
@@ -177,22 +216,14 @@ impl Record {
         Some((line, column))
     }
 
-    /// Where the text of a line ends, with the comment behind it.
-    pub fn end_x(&self, line: &Line) -> u64
-        ensures bound { result < 2 ^ 44 }
-    {
-        match self.columns.get(usize::from(line.hart)) {
-            Some(column) => line.end_x(column),
-            None => 0,
-        }
-    }
-
     /// Whether the picture has a shape of a kind.
     pub fn has(&self, kind: Kind) -> bool {
         match kind {
             Kind::Request => self.has_message(Message::Request),
             Kind::Acknowledgement => self.has_message(Message::Acknowledgement),
             Kind::Hit => !self.hits.is_empty(),
+            Kind::SecondOwner => !self.owners.is_empty(),
+            Kind::Space => !self.switches.is_empty(),
             _ => self.bars.iter().any(|bar| bar.shows(kind)),
         }
     }

@@ -2,7 +2,7 @@
 
 use crate::fills::Fills;
 use crate::lanes::Lanes;
-use crate::layout::Column;
+use crate::layout::{CHAR_WIDTH, Column};
 use crate::record::{Arrow, Bar, Message, Span};
 use pte::{PAGE_BYTES, Page, VirtAddr};
 use stale::stale_page;
@@ -42,26 +42,33 @@ pub struct Held {
     pub first: u32,
     /// Since which row the TLB held it and it was valid.
     pub valid: Option<u32>,
+    /// Whether the order for it names the hart.
+    pub is_named: bool,
     /// The number of the page of 4 KiB that was found to be stale last.
     pub found: u64,
 }
 
 impl Held {
     /// What a TLB holds by an entry since it became stale in a page.
-    pub fn new(entry: Entry, page: Page, first: u32, valid: Option<u32>) -> Held {
+    pub fn new(entry: Entry, page: Page, first: u32, valid: Option<u32>, is_named: bool) -> Held {
         Held {
             entry,
             page,
             first,
             valid,
+            is_named,
             found: page.base().get() / PAGE_BYTES,
         }
     }
 
     /// The PPN that the entry has for the page.
     pub fn ppn(&self) -> u64 {
-        let bytes = self
-            .page
+        self.ppn_of(&self.page)
+    }
+
+    /// The PPN that the entry has for a page in its own.
+    pub fn ppn_of(&self, page: &Page) -> u64 {
+        let bytes = page
             .base()
             .get()
             .saturating_sub(self.entry.page.base().get());
@@ -83,6 +90,14 @@ pub struct Track {
     pub label: usize,
 }
 
+/// How many characters of texts and labels a column has room for at most. Longer ones run over what
+/// is right of them.
+#[derive(Clone, Copy)]
+pub struct Room {
+    pub characters: u16,
+    pub label: u16,
+}
+
 /// A number of characters, as far as it can be.
 fn short(length: usize) -> u16 {
     u16::try_from(length).unwrap_or(u16::MAX)
@@ -102,16 +117,22 @@ impl Track {
         }
     }
 
-    /// The column that has room for all that was open, and for texts of this many characters.
-    pub fn column(&self, left: u32, characters: usize) -> Column {
+    /// The column that has room for all that was open, and for this many characters of texts and
+    /// labels, if they have as many.
+    pub fn column(&self, left: u32, characters: usize, room: Room) -> Column {
         Column {
             left,
             flights: self.flights.count(),
             orders: self.orders.count(),
-            characters: short(characters),
+            characters: short(characters).min(room.characters),
             stale: self.stale.count(),
-            label: short(self.label),
+            label: short(self.label).min(room.label),
         }
+    }
+
+    /// How wide the longest label of its stale mappings is.
+    pub fn label_width(&self) -> u64 {
+        u64::from(short(self.label)) * CHAR_WIDTH
     }
 
     /// The lane of the message that has been under way longest, from a hart and, for an
@@ -298,6 +319,7 @@ impl Track {
                 page: held.page,
                 ppn: held.ppn(),
                 valid: held.valid,
+                is_named: held.is_named,
             },
             hart,
             lane,

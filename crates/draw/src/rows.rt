@@ -61,14 +61,15 @@ pub fn push_row(
     svg.push_str("</text>\n")
 }
 
-/// Adds the head of a hart's column. `y` has the digits of its place.
-pub fn push_hart(svg: &mut String, x: u64, y: &str, hart: u64) -> Result<(), AllocError>
+/// Adds the head of a hart's column, with the space that it is in. `y` has the digits of its place.
+pub fn push_hart(svg: &mut String, x: u64, y: &str, hart: u64, space: u64) -> Result<(), AllocError>
     ensures ok { (low : ℕ) → y.now ≡ decimal low → OnOk result (string_bytes svg.new
-        ≡ with_hart (string_bytes svg.old) (record { x = x; y = low }) hart) }
+        ≡ with_hart (string_bytes svg.old) (record { x = x; y = low }) hart space) }
 {
     push_pair(svg, "<text class='hart' x='", Buffer::new().format(x))?;
     push_pair(svg, "' y='", y)?;
     push_pair(svg, "'>hart ", Buffer::new().format(hart))?;
+    push_pair(svg, ", space ", Buffer::new().format(space))?;
     svg.push_str("</text>\n")
 }
 

@@ -3,16 +3,16 @@
 ghost use Rattle.std.specs.Prelude.{◌≡◌, ◌+◌, IfErr, IfOk, OnOk, vec_len};
 ghost use Rattle.files.specs.declared.fault.Fault.TheVariants.{NoMemory};
 
+use crate::columns::{columns_of, labels_end};
 use crate::comments::Comments;
-use crate::layout::FIRST_COLUMN;
-use crate::record::{Message, Record, Row, Span, StaleHit};
+use crate::owners::{Mapping, find_owners};
+use crate::record::{Message, Record, Row, Span, StaleHit, Switch};
 use crate::recorder::{Doing, Flight, Held, OpenOrder, Track};
 use crate::sheet::Sheet;
-use crate::step_words::hart_of;
+use crate::step_words::{hart_of, push_mapping};
 use files::{Fault, RunScenario};
-use lines::{push_hexadecimal, push_page};
-use pte::Page;
-use spaces::OpenFault;
+use shoot::HartSet;
+use spaces::{OpenFault, Place};
 use stale::{
     BecameStale, StaleAt, StaleItem, StaleUse, may_end_stale, may_end_stale_at, step_stale,
 };
@@ -29,11 +29,12 @@ struct Recorder {
     scratch: String,
 }
 
-/// Adds the label of a stale mapping: its page, and the PPN for it.
-pub fn push_mapping(text: &mut String, page: Page, ppn: u64) -> Result<(), AllocError> {
-    push_page(text, page)?;
-    text.push_str(" PPN 0x")?;
-    push_hexadecimal(text, ppn)
+/// The harts that a step names which opens an order; all, if it has no such word.
+fn named_by(event: &Event) -> HartSet {
+    match *event {
+        Event::Unmap { named, .. } | Event::Protect { named, .. } => HartSet::from(named),
+        _ => HartSet::from(u8::MAX),
+    }
 }
 
 /// The youngest entry of a hart's TLB.
@@ -62,11 +63,14 @@ impl Recorder {
             tracks,
             record: Record {
                 columns: Vec::new(alloc),
+                labels_end: 0,
                 rows: Vec::with_capacity(alloc, steps)?,
                 sheet: Sheet::new(alloc, harts, comments)?,
                 bars: Vec::new(alloc),
                 arrows: Vec::new(alloc),
                 hits: Vec::new(alloc),
+                owners: Vec::new(alloc),
+                switches: Vec::new(alloc),
             },
             scratch: String::new(alloc),
         })
@@ -76,7 +80,11 @@ impl Recorder {
     fn add_row(&mut self, row: u32, event: &Event, reply: Reply) -> Result<(), AllocError>
         ensures { OnOk result (vec_len self.new.«record».rows ≡ vec_len self.old.«record».rows + 1) }
     {
-        let line = self.record.sheet.add(row, event, reply)?;
+        let is_hit = match self.record.hits.as_slice().last() {
+            Some(hit) => hit.row == row,
+            None => false,
+        };
+        let line = self.record.sheet.add(row, event, reply, is_hit)?;
         let hart = hart_of(event);
         Ok(self.record.rows.push(Row { hart, line })?)
     }
@@ -310,7 +318,12 @@ impl Recorder {
     }
 
     /// Begins a bar for a mapping that became stale, if it has none.
-    fn note_becoming(&mut self, row: u32, became: &BecameStale) -> Result<(), AllocError>
+    fn note_becoming(
+        &mut self,
+        row: u32,
+        event: &Event,
+        became: &BecameStale,
+    ) -> Result<(), AllocError>
         ensures { self.new.«record».rows ≡ self.old.«record».rows }
     {
         let Some(track) = self.tracks.get_mut(usize::from(became.hart)) else {
@@ -323,9 +336,10 @@ impl Recorder {
             return Ok(());
         }
         let valid = track.fills.valid_since(&became.entry);
-        let held = Held::new(became.entry, became.page, row, valid);
+        let is_named = named_by(event).contains(became.hart);
+        let held = Held::new(became.entry, became.page, row, valid, is_named);
         self.scratch.clear();
-        push_mapping(&mut self.scratch, held.page, held.ppn())?;
+        push_mapping(&mut self.scratch, held.page, held.ppn(), is_named)?;
         track.label = track.label.max(self.scratch.len());
         track.stale.open(held, valid.unwrap_or(row))
     }
@@ -348,16 +362,52 @@ impl Recorder {
     }
 
     /// Records what a step did with stale mappings.
-    fn note_items(&mut self, row: u32, items: &[StaleAt]) -> Result<(), AllocError>
+    fn note_items(&mut self, row: u32, event: &Event, items: &[StaleAt]) -> Result<(), AllocError>
         ensures { self.new.«record».rows ≡ self.old.«record».rows }
     {
         for at in items {
             match &at.item {
-                StaleItem::Became(became) => self.note_becoming(row, became)?,
+                StaleItem::Became(became) => self.note_becoming(row, event, became)?,
                 StaleItem::Used(used) => self.note_hit(row, used)?,
             }
         }
         Ok(())
+    }
+
+    /// Records a step that is made: a leaf is stored, or a hart goes to another space.
+    fn note_place(
+        &mut self,
+        machine: &Machine,
+        row: u32,
+        event: &Event,
+        reply: &Reply,
+    ) -> Result<(), AllocError>
+        ensures { self.new.«record».rows ≡ self.old.«record».rows }
+    {
+        match *event {
+            Event::Map {
+                place,
+                page,
+                ppn,
+                ..
+            } if matches!(reply, Reply::Leaf) => {
+                let asid = match place {
+                    Place::Space(space) => machine.asid_of_space(space),
+                    Place::Kernel => None,
+                };
+                let mapping = Mapping { asid, page, ppn };
+                find_owners(
+                    self.tracks.as_slice(),
+                    row,
+                    &mapping,
+                    &mut self.record.owners,
+                )
+            }
+            Event::Switch { hart, space } => {
+                Ok(self.record.switches.push(Switch { row, hart, space })?)
+            }
+            _ => Ok(()),
+        }
     }
 
     /// Makes a step, and records it.
@@ -375,29 +425,28 @@ impl Recorder {
         if !matches!(reply, Reply::Refused(_)) {
             self.note(row, event, &reply)?;
             self.note_fill(machine, row, event, &reply);
-            self.note_items(row, items.as_slice())?;
+            self.note_items(row, event, items.as_slice())?;
             if may_end_stale(event, &reply) {
                 self.note_drops(machine, row, event, &reply)?;
             }
+            self.note_place(machine, row, event, &reply)?;
         }
         self.add_row(row, event, reply)
     }
 
     /// Ends all that is open, and lays out the columns.
-    fn close(mut self, rows: u32) -> Result<Record, AllocError>
+    fn close(mut self, alloc: Global, rows: u32) -> Result<Record, AllocError>
         ensures { IfOk result (λ closed. closed.rows ≡ self.«record».rows) }
     {
         self.record.sheet.close(rows)?;
         let last = rows.saturating_sub(1);
         let mut hart: u8 = 0;
-        let mut left = FIRST_COLUMN;
         for track in self.tracks.as_mut_slice() {
             track.end_all(hart, last, &mut self.record.bars, &mut self.record.arrows)?;
-            let column = track.column(left, self.record.sheet.width(hart));
-            left = u32::try_from(column.right()).unwrap_or(u32::MAX);
-            self.record.columns.push(column)?;
             hart = hart.saturating_add(1);
         }
+        self.record.columns = columns_of(alloc, self.tracks.as_slice(), &self.record.sheet)?;
+        self.record.labels_end = labels_end(self.tracks.as_slice(), self.record.columns.as_slice());
         Ok(self.record)
     }
 }
@@ -426,5 +475,5 @@ pub fn record(alloc: Global, scenario: &RunScenario, comments: Comments) -> Resu
         recorder.step(&mut machine, row, event, &mut items)?;
         row = row.saturating_add(1);
     }
-    Ok(recorder.close(row)?)
+    Ok(recorder.close(alloc, row)?)
 }

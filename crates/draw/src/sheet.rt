@@ -14,6 +14,8 @@ struct OpenLine {
     reply: Reply,
     first: u32,
     last: u32,
+    /// Whether a stale mapping answered the step.
+    is_hit: bool,
 }
 
 impl OpenLine {
@@ -29,9 +31,10 @@ impl OpenLine {
 }
 
 /// The kind of the line of a step.
-fn kind_of(reply: Reply) -> LineKind {
+fn kind_of(reply: Reply, is_hit: bool) -> LineKind {
     match reply {
         Reply::Refused(_) => LineKind::RefusedStep,
+        _ if is_hit => LineKind::HitStep,
         _ => LineKind::Step,
     }
 }
@@ -87,13 +90,20 @@ impl Sheet {
         }
     }
 
-    /// Adds a step, and answers the line in which it is drawn.
-    pub fn add(&mut self, row: u32, event: &Event, reply: Reply) -> Result<u32, AllocError> {
+    /// Adds a step, which a stale mapping answered or not, and answers the line in which it is drawn.
+    pub fn add(
+        &mut self,
+        row: u32,
+        event: &Event,
+        reply: Reply,
+        is_hit: bool,
+    ) -> Result<u32, AllocError> {
         let mut open = OpenLine {
             event: *event,
             reply,
             first: row,
             last: row,
+            is_hit,
         };
         self.scratch.clear();
         let has_note = self.comments.take(row, At::Before, &mut self.scratch)?;
@@ -169,7 +179,7 @@ impl Sheet {
         }
         Ok(
             self.lines.push(Line {
-                kind: kind_of(open.reply),
+                kind: kind_of(open.reply, open.is_hit),
                 hart,
                 first: open.first,
                 last: open.last,

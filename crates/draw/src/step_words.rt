@@ -7,7 +7,7 @@ use bitflags::Flags;
 use history::Scope;
 use itoa::Buffer;
 use lines::{push_harts, push_hexadecimal, push_page, push_reply};
-use pte::{Access, Ctx, Mode, PteFlags};
+use pte::{Access, Ctx, Mode, Page, PteFlags};
 use shoot::HartSet;
 use spaces::Place;
 use std::alloc::AllocError;
@@ -188,4 +188,18 @@ pub fn push_steps(
     push_events(text, event, loads)?;
     text.push_str(": ")?;
     push_reply(text, reply)
+}
+
+/// Adds the label of a stale mapping: its page, the PPN for it, and whether the order for it does
+/// not name the hart.
+pub fn push_mapping(
+    text: &mut String,
+    page: Page,
+    ppn: u64,
+    is_named: bool,
+) -> Result<(), AllocError> {
+    push_page(text, page)?;
+    text.push_str(" PPN 0x")?;
+    push_hexadecimal(text, ppn)?;
+    text.push_str(if is_named { "" } else { ", not named" })
 }
