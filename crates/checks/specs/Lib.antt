@@ -2,3 +2,4 @@ pub mod Near
 pub mod Places
 pub mod Told
 pub mod Shown
+pub mod Lines

@@ -108,6 +108,7 @@ impl Reader {
         };
         if at == 1 && num(first).is_none() {
             let why = " where the number of the hart is expected";
+            let spot = spot.at_word(0);
             report.tell(spot, &[Piece::Word(text_of(first)), Piece::Text(why)]);
             return true;
         }
@@ -115,7 +116,7 @@ impl Reader {
             report.tell(spot, &[Piece::Text(NO_NAME)]);
             return true;
         };
-        self.tell_unknown(report, spot, text_of(name))
+        self.tell_unknown(report, spot.at_word(at), text_of(name))
     }
 
     /// Reports what is wrong with the name of a step, if it is none. Answers whether it is none.
@@ -151,6 +152,10 @@ impl Reader {
         for index in 0..form.count() {
             if let Some(field) = form.field_at(index) {
                 let word = word_at(text, index).map(|word| text_of(word));
+                let spot = match word {
+                    Some(_) => spot.at_word(index),
+                    None => spot,
+                };
                 if self.tell_field(report, spot, form, field, word) {
                     return true;
                 }
@@ -163,6 +168,7 @@ impl Reader {
             Piece::Word(text_of(word)),
             Piece::Text(" is a word too many"),
         );
+        let spot = spot.at_word(form.count());
         report.tell(spot, &[word, is, WRITTEN, Piece::Form(form)]);
         true
     }
@@ -204,7 +210,8 @@ impl Reader {
             if let Some(hart) = self.absent_at(form, text, index) {
                 let is = Piece::Text(" is not there: the harts are 0 to ");
                 let last = Piece::Number(u64::from(self.harts.saturating_sub(1)));
-                report.tell(spot, &[Piece::Text("hart "), Piece::Number(hart), is, last]);
+                let what = [Piece::Text("hart "), Piece::Number(hart), is, last];
+                report.tell(spot.at_word(index), &what);
                 return true;
             }
         }
@@ -239,7 +246,8 @@ impl Reader {
                 let word = word_at(text, index).unwrap_or(b"".as_slice());
                 let why = Piece::Text(wrong_base(self.scheme, word));
                 let is = Piece::Text(" is no page: ");
-                report.tell(spot, &[Piece::Word(text_of(word)), is, why]);
+                let what = [Piece::Word(text_of(word)), is, why];
+                report.tell(spot.at_word(index), &what);
                 return true;
             }
         }
