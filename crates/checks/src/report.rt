@@ -6,6 +6,7 @@ use crate::forms::Form;
 use crate::positions::Position;
 use crate::printed::Told;
 use crate::shown::is_hidden;
+use crate::split::text_of;
 use files::Fault;
 use std::alloc::{AllocError, Global};
 use steps::{Field, StepFault};
@@ -33,6 +34,8 @@ pub enum Piece<'a> {
     StepFault(StepFault),
     /// How a step is written.
     Form(Form),
+    /// What is meant perhaps; nothing if it is empty.
+    Meant(&'a [u8]),
 }
 
 /// Where a fault is, and what the line that tells it begins with.
@@ -113,6 +116,21 @@ impl Report {
         self.tell(spot, what);
     }
 
+    /// What is meant perhaps, or nothing, also if there was not enough memory, which is noted.
+    pub fn meant(&mut self, meant: Result<Option<Vec<u8>>, AllocError>) -> Vec<u8>
+        ensures told { self.new.told ≡ self.old.told }
+        ensures still_short { IsStillTrue self.old.is_out_of_memory self.new.is_out_of_memory }
+    {
+        match meant {
+            Ok(Some(meant)) => meant,
+            Ok(None) => Vec::new(self.alloc),
+            Err(error) => {
+                self.note(Err(error));
+                Vec::new(self.alloc)
+            }
+        }
+    }
+
     /// Notes whether there was enough memory.
     pub fn note(&mut self, done: Result<(), AllocError>)
         ensures memory { self.new.is_out_of_memory ≡ (self.old.is_out_of_memory || is_err done) }
@@ -153,7 +171,16 @@ fn push_piece(text: &mut String, piece: Piece<'_>) -> Result<(), AllocError> {
         Piece::Fault(fault) => write!(text, "{fault}"),
         Piece::StepFault(fault) => write!(text, "{fault}"),
         Piece::Form(form) => push_form(text, form),
+        Piece::Meant(meant) => push_meant(text, meant),
     }
+}
+
+fn push_meant(text: &mut String, meant: &[u8]) -> Result<(), AllocError> {
+    if meant.is_empty() {
+        return Ok(());
+    }
+    text.push_str("; perhaps ")?;
+    text.push_str(text_of(meant))
 }
 
 fn push_limit(text: &mut String, limit: u64) -> Result<(), AllocError> {

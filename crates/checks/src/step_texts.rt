@@ -4,6 +4,7 @@ ghost use Rattle.std.specs.Prelude.{◌≤◌};
 
 use crate::fields::{expected, is_right};
 use crate::forms::{Form, names};
+use crate::meant::word_meant;
 use crate::near::nearest;
 use crate::report::{Piece, Report, Spot};
 use crate::split::{text_of, word_at};
@@ -184,21 +185,16 @@ impl Reader {
     ) -> bool
         ensures { IsStillTrue report.old.is_out_of_memory report.new.is_out_of_memory }
     {
-        let expected = Piece::Text(expected(field));
-        let (name, form) = (Piece::Text(field.label()), Piece::Form(form));
         let Some(word) = word else {
-            let is = Piece::Text(" is missing: ");
-            report.tell(spot, &[name, is, expected, WRITTEN, form]);
+            tell_missing(report, spot, form, field);
             return true;
         };
-        if is_right(field, self.scheme, word) {
+        if is_right(field, self.scheme, word.as_bytes()) {
             return false;
         }
-        let (at, is) = (Piece::Text(" where "), Piece::Text(" is expected: "));
-        report.tell(
-            spot,
-            &[Piece::Word(word), at, name, is, expected, WRITTEN, form],
-        );
+        let found = word_meant(report.alloc, self.scheme, field, word.as_bytes());
+        let meant = report.meant(found);
+        tell_wrong(report, spot, form, field, word, meant.as_slice());
         true
     }
 
@@ -253,6 +249,45 @@ impl Reader {
         }
         false
     }
+}
+
+/// Reports that the word of a field is missing.
+fn tell_missing(report: &mut Report, spot: Spot<'_>, form: Form, field: Field)
+    ensures { IsStillTrue report.old.is_out_of_memory report.new.is_out_of_memory }
+{
+    let (name, is) = (Piece::Text(field.label()), Piece::Text(" is missing: "));
+    let what = [
+        name,
+        is,
+        Piece::Text(expected(field)),
+        WRITTEN,
+        Piece::Form(form),
+    ];
+    report.tell(spot, &what);
+}
+
+/// Reports that a word is wrong for a field, and which one is meant perhaps.
+fn tell_wrong<'a>(
+    report: &mut Report,
+    spot: Spot<'_>,
+    form: Form,
+    field: Field,
+    word: &'a str,
+    meant: &'a [u8],
+)
+    ensures { IsStillTrue report.old.is_out_of_memory report.new.is_out_of_memory }
+{
+    let what = [
+        Piece::Word(word),
+        Piece::Text(" where "),
+        Piece::Text(field.label()),
+        Piece::Text(" is expected: "),
+        Piece::Text(expected(field)),
+        WRITTEN,
+        Piece::Form(form),
+        Piece::Meant(meant),
+    ];
+    report.tell(spot, &what);
 }
 
 /// Reports that a word is no step of a command.

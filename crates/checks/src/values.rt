@@ -4,6 +4,7 @@ ghost use Rattle.files.specs.KeyTable.{name_of};
 ghost use Rattle.checks.specs.Places.{IsKeyLine};
 ghost use Rattle.checks.specs.Told.{IsStillTrue};
 
+use crate::meant::{number_in, scheme_meant};
 use crate::places::Place;
 use crate::positions::Position;
 use crate::report::{Piece, Report, Spot};
@@ -226,7 +227,10 @@ impl<'a> Document<'a> {
             return;
         };
         let Some(n) = number_of(text) else {
-            self.tell_text(report, key, &[Piece::Word(text), Piece::Text(NO_NUMBER)]);
+            let found = number_in(report.alloc, text, limit);
+            let meant = report.meant(found);
+            let (no, meant) = (Piece::Text(NO_NUMBER), Piece::Meant(meant.as_slice()));
+            self.tell_text(report, key, &[Piece::Word(text), no, meant]);
             return;
         };
         match limit {
@@ -255,7 +259,9 @@ impl<'a> Document<'a> {
         if is_only_word(text, "sv48") {
             return Some(Scheme::Sv48);
         }
-        let what = [Piece::Word(text), Piece::Text(" is neither sv39 nor sv48")];
+        let neither = Piece::Text(" is neither sv39 nor sv48");
+        let meant = Piece::Meant(scheme_meant(text).as_bytes());
+        let what = [Piece::Word(text), neither, meant];
         self.tell_text(report, Key::Mode, &what);
         None
     }
