@@ -1,6 +1,6 @@
 //! Where keys and texts stand in a document that was read: their lines, columns and bytes.
 ghost use Rattle.std.specs.Prelude.{◌≡◌, IfOk, IfSome, None};
-ghost use Rattle.checks.specs.Places.{after_blanks, begins_with, is_blank, IsKeyLine};
+ghost use Rattle.checks.specs.Places.{after_blanks, after_bracket, begins_with, has_head_key, has_key, is_blank, is_first, IsKeyLine};
 
 use std::alloc::{AllocError, Global};
 
@@ -150,13 +150,48 @@ fn long_after(quote: u8, read: u8, byte: u8) -> State {
     }
 }
 
-/// Whether a line begins with a key, blanks and `=`.
+/// Whether a line begins with a key and `=`, or with the head of the key's table.
 fn begins_with(line: &[u8], key: &str) -> bool
     ensures { result ≡ begins_with key.now line.now }
 {
-    match trimmed(line).strip_prefix(key.as_bytes()) {
-        Some(rest) => trimmed(rest).first() == Some(&b'='),
+    let line = trimmed(line);
+    has_key(b'=', b'.', key, line) || has_head_key(key, line)
+}
+
+/// Whether the head of a table stands first, whose first key this is.
+fn has_head_key(key: &str, line: &[u8]) -> bool
+    ensures { result ≡ has_head_key key.now line.now }
+{
+    is_first(b'[', b'[', line)
+        && has_key(b']', b'.', key, trimmed(after_bracket(after_bracket(line))))
+}
+
+/// Whether a key stands first, and behind it, after blanks, one of two bytes.
+fn has_key(one: u8, other: u8, key: &str, line: &[u8]) -> bool
+    ensures { result ≡ has_key one other key.now line.now }
+{
+    match line.strip_prefix(key.as_bytes()) {
+        Some(rest) => is_first(one, other, trimmed(rest)),
         None => false,
+    }
+}
+
+fn is_first(one: u8, other: u8, line: &[u8]) -> bool
+    ensures { result ≡ is_first one other line.now }
+{
+    match line {
+        [] => false,
+        [byte, ..] => *byte == one || *byte == other,
+    }
+}
+
+/// What stands behind an opening bracket, if one stands first.
+fn after_bracket(line: &[u8]) -> &[u8]
+    ensures { result.now ≡ after_bracket line.now }
+{
+    match line {
+        [b'[', rest @ ..] => rest,
+        _ => line,
     }
 }
 
@@ -227,7 +262,7 @@ pub fn column_after(column: usize, byte: u8) -> usize {
     }
 }
 
-/// The line of a key at the beginning of a line, and the texts of its value: the value itself, or
+/// The line that begins with a key or with the head of its table, and the texts of its value: the value itself, or
 /// those in the array, or in the arrays of the array. `None`: there is no such line.
 #[derive(Drop)]
 pub struct Place {
@@ -246,7 +281,8 @@ impl Place {
         }
     }
 
-    /// Where the key and its texts stand in a document. The line begins with the key.
+    /// Where the key and its texts stand in a document. The line begins with the key or with the
+    /// head of its table.
     /// `AllocError`: there was not enough memory.
     pub fn of_key(alloc: Global, text: &str, key: &str) -> Result<Place, AllocError>
         ensures line { IfOk result (λ place. IfSome place.line (λ number. IsKeyLine text.now
@@ -307,15 +343,5 @@ impl Place {
             .filter(|mark| mark.group == group)
             .nth(index)
             .copied()
-    }
-
-    /// The line of the text of this index in the array of this number.
-    pub fn line_of(&self, group: usize, index: usize) -> Option<usize> {
-        self.mark_of(group, index).map(|mark| mark.line)
-    }
-
-    /// The line of the text of this index in an array, or else that of the key.
-    pub fn line_in_array(&self, index: usize) -> Option<usize> {
-        self.line_of(0, index).or(self.line)
     }
 }
