@@ -55,21 +55,39 @@ fn push_span(
     )
 }
 
-/// Adds the label of a bar: in a line at its beginning, and below each line of heads.
+/// The line for a label at a place that goes into a line: that, or the next one, if a text runs over
+/// the place in it.
+fn label_line(record: &Record, x: u64, line: u32, last: u32) -> u32 {
+    let Some(drawn) = record.sheet.lines.get(line as usize) else {
+        return line;
+    };
+    let Some(column) = record.columns.get(usize::from(drawn.hart)) else {
+        return line;
+    };
+    if line < last && column.text_x() <= x && drawn.end_x(column) > x {
+        line.saturating_add(1)
+    } else {
+        line
+    }
+}
+
+/// Adds the label of a bar at its beginning, and below each line of heads.
 fn push_labels(
     svg: &mut String,
+    record: &Record,
     opening: &str,
     x: u64,
     lines: Lines,
-    first: u32,
     label: &str,
 ) -> Result<(), AllocError> {
     let mut digits = Buffer::new();
-    let x = digits.format(x);
-    push_words(svg, opening, x, row_middle(first) + 4, label)?;
+    let left = digits.format(x);
+    let first = label_line(record, x, lines.first, lines.last);
+    push_words(svg, opening, left, row_middle(first) + 4, label)?;
     for heads in heads_above(lines.first)..heads_above(lines.last) {
-        let line = heads.saturating_mul(ROWS_A_HEAD);
-        push_words(svg, opening, x, row_middle(line) + 4, label)?;
+        let top = heads.saturating_mul(ROWS_A_HEAD);
+        let line = label_line(record, x, top, lines.last);
+        push_words(svg, opening, left, row_middle(line) + 4, label)?;
     }
     Ok(())
 }
@@ -77,6 +95,7 @@ fn push_labels(
 /// Adds the bar of an order, and its ticket.
 fn push_order(
     svg: &mut String,
+    record: &Record,
     x: u64,
     lines: Lines,
     ticket: u32,
@@ -91,10 +110,10 @@ fn push_order(
     let mut digits = Buffer::new();
     push_labels(
         svg,
+        record,
         "<text class='ticket' x='",
         x + 7,
         lines,
-        lines.first,
         digits.format(ticket),
     )
 }
@@ -149,17 +168,6 @@ fn push_ended(
     push_end(svg, Point { x: from, y }, Point { x: to, y })
 }
 
-/// The line for the label of a bar: the first, or the next one, if a text runs over the bar in that.
-fn label_line(record: &Record, bar: &Bar, x: u64, lines: Lines) -> u32 {
-    match record.text_of(bar.first) {
-        Some((line, column))
-            if column.text_x() <= x && line.end_x(column) > x && lines.first < lines.last => {
-            lines.first.saturating_add(1)
-        }
-        _ => lines.first,
-    }
-}
-
 /// Adds the bar of a stale mapping, its label, and the lines from where it became valid and to what
 /// ended it.
 fn push_stale(
@@ -182,8 +190,14 @@ fn push_stale(
     if bar.has_end {
         push_ended(svg, record, bar, x, x + width)?;
     }
-    let first = label_line(record, bar, x, lines);
-    push_labels(svg, "<text class='mapping' x='", x + 5, lines, first, label)
+    push_labels(
+        svg,
+        record,
+        "<text class='mapping' x='",
+        x + 5,
+        lines,
+        label,
+    )
 }
 
 /// Adds a bar. `scratch` is for its label.
@@ -202,7 +216,7 @@ pub fn push_bar(
         Span::Service => push_span(svg, "service", column.doing_x(), 12, lines),
         Span::Order { ticket, done } => {
             let done = done.map(|row| record.line(row));
-            push_order(svg, column.order_x(bar.lane), lines, ticket, done)
+            push_order(svg, record, column.order_x(bar.lane), lines, ticket, done)
         }
         Span::Stale {
             page,

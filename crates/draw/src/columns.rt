@@ -59,8 +59,10 @@ pub fn columns_of(
 pub fn labels_end(tracks: &[Track], columns: &[Column]) -> u64 {
     let mut end = 0;
     for (track, column) in tracks.iter().zip(columns) {
-        let last = column.stale_x(column.stale.saturating_sub(1));
-        end = track.label_width().saturating_add(last).max(end);
+        if column.stale > 0 {
+            let last = column.stale_x(column.stale - 1);
+            end = track.label_width().saturating_add(last).max(end);
+        }
     }
     end
 }

@@ -7,8 +7,12 @@ use std::alloc::{AllocError, Global};
 
 /// The comments at the steps of a file for `run`.
 pub fn comments_of(alloc: Global, text: &str) -> Result<Comments, AllocError> {
-    let place = Place::of_key(alloc, text, "steps")?;
     let mut comments = Comments::none(alloc);
+    // to find where the texts of steps stand goes over each byte of the file
+    if !text.contains('#') {
+        return Ok(comments);
+    }
+    let place = Place::of_key(alloc, text, "steps")?;
     let mut row: u32 = 0;
     let mut end = 0;
     for mark in place.marks.as_slice() {

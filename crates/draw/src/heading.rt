@@ -3,7 +3,7 @@
 use std::alloc::{AllocError, Global};
 
 /// How many characters of a title are shown.
-const TITLE_CHARACTERS: usize = 100;
+const TITLE_CHARACTERS: usize = 110;
 
 /// How many characters of a file's name are shown.
 const NAME_CHARACTERS: usize = 60;

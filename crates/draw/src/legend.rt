@@ -1,6 +1,6 @@
 //! The legend of a picture: an entry for each kind of shape that it has.
 
-ghost use Rattle.std.specs.Prelude.{◌≡◌, ◌+◌, ◌*◌, ◌<◌, ◌≤◌, ◌^◌};
+ghost use Rattle.std.specs.Prelude.{◌<◌, ◌≤◌, ◌^◌};
 
 use crate::layout::Point;
 use crate::shapes::{

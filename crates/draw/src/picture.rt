@@ -1,6 +1,6 @@
 //! Writes a recorded run as an SVG document.
 
-ghost use Rattle.std.specs.Prelude.{◌≡◌, ◌<◌, ◌^◌, IfErr};
+ghost use Rattle.std.specs.Prelude.{◌≡◌, IfErr};
 ghost use Rattle.files.specs.declared.fault.Fault.TheVariants.{NoMemory};
 
 use crate::bars::{push_bar, push_flight, push_hit, push_owner};
