@@ -2,3 +2,5 @@ pub mod Near
 pub mod Places
 pub mod Told
 pub mod Shown
+pub mod Meant
+pub mod Lines

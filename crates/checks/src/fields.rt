@@ -1,4 +1,7 @@
 //! What is expected of a word of a step.
+ghost use Rattle.std.specs.Prelude.{◌≡◌};
+ghost use Rattle.checks.specs.Meant.{is_read};
+
 use pte::Scheme;
 use spaces::MAX_HARTS;
 use steps::{Field, StepFault};
@@ -27,7 +30,11 @@ pub fn expected(field: Field) -> &'static str {
 }
 
 /// Whether a word is of this kind, as the reader of steps has it.
-pub fn is_right(field: Field, scheme: Scheme, word: &str) -> bool {
-    let fault = field.fault(scheme, MAX_HARTS as u8, word.as_bytes());
-    !matches!(fault, Some(StepFault::NotStep))
+pub fn is_right(field: Field, scheme: Scheme, word: &[u8]) -> bool
+    ensures { result ≡ is_read scheme field word.now }
+{
+    match field.fault(scheme, MAX_HARTS as u8, word) {
+        Some(StepFault::NotStep) => false,
+        Some(StepFault::NoSuchHart) | Some(StepFault::NotPage) | None => true,
+    }
 }

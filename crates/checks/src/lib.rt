@@ -9,9 +9,13 @@ mod forms;
 mod keys_known;
 mod laws;
 mod layout;
+mod meant;
 mod near;
 mod places;
+mod positions;
+mod printed;
 mod report;
+mod shown;
 mod spaces_told;
 mod split;
 mod step_texts;
@@ -22,5 +26,9 @@ mod values;
 pub use checked::{Checked, check_text};
 pub use commands::command_of;
 pub use files::Command;
-pub use laws::{near_words_are_edited_ones, no_word_is_its_own_swap, worked_swaps};
+pub use laws::{
+    near_words_are_edited_ones, no_word_is_its_own_swap, worked_swaps, worked_words_meant,
+};
 pub use near::{is_near, is_swap, nearest};
+pub use places::{Mark, Place};
+pub use printed::Told;

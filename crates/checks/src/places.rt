@@ -1,10 +1,8 @@
-//! Where keys and texts stand in a document that was read: the numbers of their lines.
-ghost use Rattle.checks.specs.Told.{IsStillTrue};
-ghost use Rattle.std.specs.Prelude.{◌≡◌, IfSome, None};
-ghost use Rattle.checks.specs.Places.{after_blanks, begins_with, is_blank, IsKeyLine};
+//! Where keys and texts stand in a document that was read: their lines, columns and bytes.
+ghost use Rattle.std.specs.Prelude.{◌≡◌, IfOk, IfSome, None};
+ghost use Rattle.checks.specs.Places.{after_blanks, after_bracket, begins_with, has_head_key, has_key, is_blank, is_first, IsKeyLine};
 
-use crate::report::Report;
-use std::alloc::AllocError;
+use std::alloc::{AllocError, Global};
 
 /// What the scan of a document is in.
 #[derive(Clone, Copy)]
@@ -26,10 +24,33 @@ enum State {
     Closed(u8),
 }
 
-/// A text in an array: its line, and in which array of the array it stands, counted from 1, or 0.
+impl State {
+    /// Whether a byte still belongs to the text that the scan is in.
+    fn holds(self, byte: u8) -> bool {
+        match self {
+            State::Plain | State::Comment => false,
+            State::Two(quote) | State::Closed(quote) => byte == quote,
+            State::One(_)
+            | State::Text(_)
+            | State::Escape
+            | State::Long(_, _)
+            | State::LongEscape => true,
+        }
+    }
+}
+
+/// Where a text of a key's value stands, with its quotes.
 #[derive(Clone, Copy)]
 pub struct Mark {
+    /// The line and the column of the opening quote, counted from 1, the column in characters.
     pub line: usize,
+    pub column: usize,
+    /// The index of the opening quote among the bytes of the document, and that of the byte behind
+    /// the closing quote.
+    pub start: usize,
+    pub end: usize,
+    /// In which array of the array it stands, counted from 1; 0 of the texts of the array itself
+    /// and of a value that is a text.
     pub group: usize,
 }
 
@@ -38,6 +59,16 @@ struct Scan {
     state: State,
     depth: usize,
     group: usize,
+    /// The text that the scan is in, whose end is not known yet.
+    open: Option<Mark>,
+}
+
+/// A line of the document: its number, and the index of its first byte.
+#[derive(Clone, Copy)]
+struct Line<'a> {
+    bytes: &'a [u8],
+    number: usize,
+    offset: usize,
 }
 
 impl Scan {
@@ -119,13 +150,48 @@ fn long_after(quote: u8, read: u8, byte: u8) -> State {
     }
 }
 
-/// Whether a line begins with a key, blanks and `=`.
+/// Whether a line begins with a key and `=`, or with the head of the key's table.
 fn begins_with(line: &[u8], key: &str) -> bool
     ensures { result ≡ begins_with key.now line.now }
 {
-    match trimmed(line).strip_prefix(key.as_bytes()) {
-        Some(rest) => trimmed(rest).first() == Some(&b'='),
+    let line = trimmed(line);
+    has_key(b'=', b'.', key, line) || has_head_key(key, line)
+}
+
+/// Whether the head of a table stands first, whose first key this is.
+fn has_head_key(key: &str, line: &[u8]) -> bool
+    ensures { result ≡ has_head_key key.now line.now }
+{
+    is_first(b'[', b'[', line)
+        && has_key(b']', b'.', key, trimmed(after_bracket(after_bracket(line))))
+}
+
+/// Whether a key stands first, and behind it, after blanks, one of two bytes.
+fn has_key(one: u8, other: u8, key: &str, line: &[u8]) -> bool
+    ensures { result ≡ has_key one other key.now line.now }
+{
+    match line.strip_prefix(key.as_bytes()) {
+        Some(rest) => is_first(one, other, trimmed(rest)),
         None => false,
+    }
+}
+
+fn is_first(one: u8, other: u8, line: &[u8]) -> bool
+    ensures { result ≡ is_first one other line.now }
+{
+    match line {
+        [] => false,
+        [byte, ..] => *byte == one || *byte == other,
+    }
+}
+
+/// What stands behind an opening bracket, if one stands first.
+fn after_bracket(line: &[u8]) -> &[u8]
+    ensures { result.now ≡ after_bracket line.now }
+{
+    match line {
+        [b'[', rest @ ..] => rest,
+        _ => line,
     }
 }
 
@@ -149,32 +215,55 @@ fn trimmed(line: &[u8]) -> &[u8]
     rest
 }
 
-/// The scan after a line. If the line is one of the value of the key, the texts that begin in it, in
-/// an array, are added to the marks.
+/// The scan after a line. If the line is one of the value of the key, the texts that end in it are
+/// added to the marks.
 fn scan_line(
     scan: Scan,
-    bytes: &[u8],
-    line: usize,
-    place: &mut Place,
+    line: Line<'_>,
     is_ours: bool,
+    place: &mut Place,
 ) -> Result<Scan, AllocError>
     ensures { place.new.line ≡ place.old.line }
 {
     let mut scan = scan;
-    for byte in bytes {
-        let next = scan.after(*byte);
-        let begins = matches!(next.state, State::One(_)) && next.depth > 0;
-        if is_ours && begins {
-            let group = next.group;
-            place.marks.push(Mark { line, group })?;
+    let mut start = line.offset;
+    let mut column = 1_usize;
+    for byte in line.bytes {
+        if !scan.state.holds(*byte) {
+            scan = place.close(scan, start)?;
         }
-        scan = next;
+        scan = scan.after(*byte);
+        if is_ours && matches!(scan.state, State::One(_)) && scan.open.is_none() {
+            scan.open = Some(Mark {
+                line: line.number,
+                column,
+                start,
+                end: start,
+                group: scan.group,
+            });
+        }
+        start = start.saturating_add(1);
+        column = column_after(column, *byte);
     }
-    Ok(scan.at_line_end())
+    scan = scan.at_line_end();
+    if matches!(scan.state, State::Plain) {
+        scan = place.close(scan, start)?;
+    }
+    Ok(scan)
 }
 
-/// The line of a key at the beginning of a line, and the texts in the array that is its value.
-/// `None`: there is no such line.
+/// The column after a byte, where a column is a character.
+pub fn column_after(column: usize, byte: u8) -> usize {
+    // the other bytes of a character are 10xxxxxx
+    if byte & 0xC0 == 0x80 {
+        column
+    } else {
+        column.saturating_add(1)
+    }
+}
+
+/// The line that begins with a key or with the head of its table, and the texts of its value: the value itself, or
+/// those in the array, or in the arrays of the array. `None`: there is no such line.
 #[derive(Drop)]
 pub struct Place {
     pub line: Option<usize>,
@@ -182,18 +271,36 @@ pub struct Place {
 }
 
 impl Place {
-    /// Where the key and its texts stand in a document. The line begins with the key.
-    pub fn of_key(report: &mut Report, text: &str, key: &str) -> Place
-        ensures line { IfSome result.line (λ number. IsKeyLine text.now key.now number) }
-        ensures still_short { IsStillTrue report.old.is_out_of_memory report.new.is_out_of_memory }
+    /// A place of nothing.
+    pub fn unknown(alloc: Global) -> Place
+        ensures { result.line ≡ None }
     {
-        let mut place = Place {
+        Place {
             line: None,
-            marks: Vec::new(report.alloc),
-        };
-        let found = place.find(text, key);
-        report.note(found);
-        place
+            marks: Vec::new(alloc),
+        }
+    }
+
+    /// Where the key and its texts stand in a document. The line begins with the key or with the
+    /// head of its table.
+    /// `AllocError`: there was not enough memory.
+    pub fn of_key(alloc: Global, text: &str, key: &str) -> Result<Place, AllocError>
+        ensures line { IfOk result (λ place. IfSome place.line (λ number. IsKeyLine text.now
+            key.now number)) }
+    {
+        let mut place = Place::unknown(alloc);
+        place.find(text, key)?;
+        Ok(place)
+    }
+
+    /// Adds the text that the scan is in, which ends before this byte.
+    fn close(&mut self, scan: Scan, end: usize) -> Result<Scan, AllocError>
+        ensures { self.new.line ≡ self.old.line }
+    {
+        if let Some(mark) = scan.open {
+            self.marks.push(Mark { end, ..mark })?;
+        }
+        Ok(Scan { open: None, ..scan })
     }
 
     fn find(&mut self, text: &str, key: &str) -> Result<(), AllocError>
@@ -204,9 +311,11 @@ impl Place {
             state: State::Plain,
             depth: 0,
             group: 0,
+            open: None,
         };
         let mut scan = start;
         let mut is_ours = false;
+        let mut offset = 0_usize;
         for (index, bytes) in text.as_bytes().split(|byte| *byte == b'\n').enumerate() {
             let line = index.saturating_add(1);
             if matches!(scan.state, State::Plain) && scan.depth == 0 {
@@ -216,22 +325,23 @@ impl Place {
                     self.line = Some(line);
                 }
             }
-            scan = scan_line(scan, bytes, line, self, is_ours)?;
+            let row = Line {
+                bytes,
+                number: line,
+                offset,
+            };
+            scan = scan_line(scan, row, is_ours, self)?;
+            offset = offset.saturating_add(bytes.len()).saturating_add(1);
         }
         Ok(())
     }
 
-    /// The line of the text of this index in the array of this number.
-    pub fn line_of(&self, group: usize, index: usize) -> Option<usize> {
+    /// The text of this index in the array of this number, or of the array itself for 0.
+    pub fn mark_of(&self, group: usize, index: usize) -> Option<Mark> {
         self.marks
             .iter()
             .filter(|mark| mark.group == group)
             .nth(index)
-            .map(|mark| mark.line)
-    }
-
-    /// The line of the text of this index in an array, or else that of the key.
-    pub fn line_in_array(&self, index: usize) -> Option<usize> {
-        self.line_of(0, index).or(self.line)
+            .copied()
     }
 }

@@ -1,9 +1,12 @@
-//! The lines that explain.
+//! The faults that are told.
 ghost use Rattle.std.specs.Prelude.{◌≡◌, ◌≤◌, ◌+◌, ◌||◌, [], OnOk, false, is_err, length, min, nat_le, vec_len};
-ghost use Rattle.checks.specs.Shown.{sets_direction};
 ghost use Rattle.checks.specs.Told.{IsStillTrue, most_told};
 
 use crate::forms::Form;
+use crate::positions::Position;
+use crate::printed::Told;
+use crate::shown::is_hidden;
+use crate::split::text_of;
 use files::Fault;
 use std::alloc::{AllocError, Global};
 use steps::{Field, StepFault};
@@ -31,80 +34,107 @@ pub enum Piece<'a> {
     StepFault(StepFault),
     /// How a step is written.
     Form(Form),
+    /// What is meant perhaps; nothing if it is empty.
+    Meant(&'a [u8]),
 }
 
-/// Where a fault is: the number of the line of the file if it is known, and what the line that tells
-/// the fault begins with.
+/// Where a fault is, and what the line that tells it begins with.
 #[derive(Clone, Copy)]
 pub struct Spot<'a> {
-    pub line: Option<usize>,
+    pub at: Position<'a>,
     pub place: &'a [Piece<'a>],
 }
 
-/// The lines that explain what is wrong, in order, each without its end.
+impl<'a> Spot<'a> {
+    /// The same at the word of this index of the text.
+    pub fn at_word(self, index: usize) -> Spot<'a> {
+        Spot {
+            at: self.at.at_word(index),
+            place: self.place,
+        }
+    }
+}
+
+/// The faults that are told, in the order in which they are found.
 #[derive(Drop)]
 pub struct Report {
     pub alloc: Global,
-    pub lines: Vec<String>,
-    /// A line or a place could not be kept.
+    pub told: Vec<Told>,
+    /// A fault or a place could not be kept.
     pub is_out_of_memory: bool,
-    ghost few: { vec_len lines ≤ most_told },
+    ghost few: { vec_len told ≤ most_told },
 }
 
 impl Report {
-    /// A report with no lines.
+    /// A report of no fault.
     pub fn new(alloc: Global) -> Report
-        ensures lines { result.lines.items ≡ [] }
+        ensures told { result.told.items ≡ [] }
         ensures memory { result.is_out_of_memory ≡ false }
     {
         Report {
             alloc,
-            lines: Vec::new(alloc),
+            told: Vec::new(alloc),
             is_out_of_memory: false,
         }
     }
 
-    /// Adds a line, unless no more faults are reported.
+    /// Adds a fault, unless no more faults are reported.
     pub fn add(&mut self, spot: Spot<'_>, what: &[Piece<'_>]) -> Result<(), AllocError>
-        ensures told { OnOk result (length self.new.lines.items
-            ≡ min (length self.old.lines.items + 1) most_told) }
+        ensures told { OnOk result (length self.new.told.items
+            ≡ min (length self.old.told.items + 1) most_told) }
         ensures memory { self.new.is_out_of_memory ≡ self.old.is_out_of_memory }
     {
         if self.is_full() {
             return Ok(());
         }
-        let text = line_text(self.alloc, spot, what)?;
-        self.lines.push(text)?;
+        let text = told_text(self.alloc, spot, what)?;
+        let (line, column) = (spot.at.line, spot.at.column);
+        self.told.push(Told { line, column, text })?;
         Ok(())
     }
 
-    /// Adds a line as `add` does, and notes whether there was enough memory.
+    /// Adds a fault as `add` does, and notes whether there was enough memory.
     pub fn tell(&mut self, spot: Spot<'_>, what: &[Piece<'_>])
-        ensures told { self.new.is_out_of_memory ≡ false → length self.new.lines.items
-            ≡ min (length self.old.lines.items + 1) most_told }
+        ensures told { self.new.is_out_of_memory ≡ false → length self.new.told.items
+            ≡ min (length self.old.told.items + 1) most_told }
         ensures still_short { IsStillTrue self.old.is_out_of_memory self.new.is_out_of_memory }
     {
         let added = self.add(spot, what);
         self.note(added);
     }
 
-    /// Adds a line that no line of the file is known for.
+    /// Adds a fault whose line is not known.
     pub fn tell_of_file(&mut self, what: &[Piece<'_>])
-        ensures told { self.new.is_out_of_memory ≡ false → length self.new.lines.items
-            ≡ min (length self.old.lines.items + 1) most_told }
+        ensures told { self.new.is_out_of_memory ≡ false → length self.new.told.items
+            ≡ min (length self.old.told.items + 1) most_told }
         ensures still_short { IsStillTrue self.old.is_out_of_memory self.new.is_out_of_memory }
     {
         let spot = Spot {
-            line: None,
+            at: Position::unknown(),
             place: &[],
         };
         self.tell(spot, what);
     }
 
+    /// What is meant perhaps, or nothing, also if there was not enough memory, which is noted.
+    pub fn meant(&mut self, meant: Result<Option<Vec<u8>>, AllocError>) -> Vec<u8>
+        ensures told { self.new.told ≡ self.old.told }
+        ensures still_short { IsStillTrue self.old.is_out_of_memory self.new.is_out_of_memory }
+    {
+        match meant {
+            Ok(Some(meant)) => meant,
+            Ok(None) => Vec::new(self.alloc),
+            Err(error) => {
+                self.note(Err(error));
+                Vec::new(self.alloc)
+            }
+        }
+    }
+
     /// Notes whether there was enough memory.
     pub fn note(&mut self, done: Result<(), AllocError>)
         ensures memory { self.new.is_out_of_memory ≡ (self.old.is_out_of_memory || is_err done) }
-        ensures lines { self.new.lines ≡ self.old.lines }
+        ensures told { self.new.told ≡ self.old.told }
     {
         if done.is_err() {
             self.is_out_of_memory = true;
@@ -113,21 +143,10 @@ impl Report {
 
     /// Whether no more faults are reported.
     pub fn is_full(&self) -> bool
-        ensures { result ≡ nat_le most_told (length self.now.lines.items) }
+        ensures { result ≡ nat_le most_told (length self.now.told.items) }
     {
-        self.lines.len() >= MOST_TOLD
+        self.told.len() >= MOST_TOLD
     }
-}
-
-/// Whether a letter sets the direction of the text around it: those with the property Bidi_Control
-/// (Unicode Standard Annex 9, section 2).
-fn sets_direction(letter: char) -> bool
-    ensures { result ≡ sets_direction letter }
-{
-    matches!(
-        letter,
-        '\u{61C}' | '\u{200E}'..='\u{200F}' | '\u{202A}'..='\u{202E}' | '\u{2066}'..='\u{2069}'
-    )
 }
 
 /// Adds a word of the file as it is printed: between backquotes, with `?` for each control character
@@ -135,8 +154,7 @@ fn sets_direction(letter: char) -> bool
 fn push_word(text: &mut String, word: &str) -> Result<(), AllocError> {
     text.push_str("`")?;
     for letter in word.chars().take(MOST_LETTERS) {
-        let is_hidden = letter.is_control() || sets_direction(letter);
-        text.push(if is_hidden { '?' } else { letter })?;
+        text.push(if is_hidden(letter) { '?' } else { letter })?;
     }
     let is_cut = word.chars().count() > MOST_LETTERS;
     text.push_str(if is_cut { "..`" } else { "`" })
@@ -153,7 +171,16 @@ fn push_piece(text: &mut String, piece: Piece<'_>) -> Result<(), AllocError> {
         Piece::Fault(fault) => write!(text, "{fault}"),
         Piece::StepFault(fault) => write!(text, "{fault}"),
         Piece::Form(form) => push_form(text, form),
+        Piece::Meant(meant) => push_meant(text, meant),
     }
+}
+
+fn push_meant(text: &mut String, meant: &[u8]) -> Result<(), AllocError> {
+    if meant.is_empty() {
+        return Ok(());
+    }
+    text.push_str("; perhaps ")?;
+    text.push_str(text_of(meant))
 }
 
 fn push_limit(text: &mut String, limit: u64) -> Result<(), AllocError> {
@@ -172,17 +199,10 @@ fn push_pieces(text: &mut String, pieces: &[Piece<'_>]) -> Result<(), AllocError
     Ok(())
 }
 
-fn push_line(text: &mut String, spot: Spot<'_>, what: &[Piece<'_>]) -> Result<(), AllocError> {
-    if let Some(line) = spot.line {
-        write!(text, "line {line}: ")?;
-    }
-    push_pieces(text, spot.place)?;
-    push_pieces(text, what)
-}
-
-fn line_text(alloc: Global, spot: Spot<'_>, what: &[Piece<'_>]) -> Result<String, AllocError> {
+fn told_text(alloc: Global, spot: Spot<'_>, what: &[Piece<'_>]) -> Result<String, AllocError> {
     let mut text = String::new(alloc);
-    push_line(&mut text, spot, what)?;
+    push_pieces(&mut text, spot.place)?;
+    push_pieces(&mut text, what)?;
     Ok(text)
 }
 

@@ -2,6 +2,7 @@
 ghost use Rattle.checks.specs.Told.{IsStillTrue};
 
 use crate::places::Place;
+use crate::positions::Position;
 use crate::report::{Piece, Report, Spot};
 use crate::split::{text_of, word_at};
 use crate::values::{Document, text_in};
@@ -85,29 +86,35 @@ fn tell_each(report: &mut Report, document: &Document<'_>, harts: Option<u8>, va
 {
     let harts = u64::from(harts.unwrap_or(MAX_HARTS as u8));
     let place = document.place(report, Key::Spaces);
-    tell_each_at(report, &place, harts, values)
+    tell_each_at(report, document, &place, harts, values)
 }
 
-fn tell_each_at(report: &mut Report, place: &Place, harts: u64, values: &[Value])
+fn tell_each_at(
+    report: &mut Report,
+    document: &Document<'_>,
+    place: &Place,
+    harts: u64,
+    values: &[Value],
+)
     ensures { IsStillTrue report.old.is_out_of_memory report.new.is_out_of_memory }
 {
     for (index, value) in values.iter().enumerate().take(MAX_SPACES) {
-        let line = place.line_in_array(index);
+        let at = document.position_in_array(place, index);
         let text = text_in(value);
         match asid_in(text, harts) {
             Some(asid) => {
                 let other = space_with(values, harts, asid).unwrap_or(index);
                 if other < index {
-                    tell_same(report, line, [other, index], asid);
+                    tell_same(report, at.at_word(1), [other, index], asid);
                 }
             }
-            None => tell_space(report, line, index, harts, text),
+            None => tell_space(report, at, index, harts, text),
         }
     }
 }
 
 /// Reports that two spaces have the same ASID.
-fn tell_same(report: &mut Report, line: Option<usize>, spaces: [usize; 2], asid: u64)
+fn tell_same(report: &mut Report, at: Position<'_>, spaces: [usize; 2], asid: u64)
     ensures { IsStillTrue report.old.is_out_of_memory report.new.is_out_of_memory }
 {
     let what = [
@@ -118,11 +125,11 @@ fn tell_same(report: &mut Report, line: Option<usize>, spaces: [usize; 2], asid:
         Piece::Text(": both have ASID "),
         Piece::Number(asid),
     ];
-    report.tell(Spot { line, place: &[] }, &what);
+    report.tell(Spot { at, place: &[] }, &what);
 }
 
 /// Reports what is wrong with the text of a space.
-fn tell_space(report: &mut Report, line: Option<usize>, index: usize, harts: u64, text: &str)
+fn tell_space(report: &mut Report, at: Position<'_>, index: usize, harts: u64, text: &str)
     ensures { IsStillTrue report.old.is_out_of_memory report.new.is_out_of_memory }
 {
     let place = [
@@ -130,10 +137,7 @@ fn tell_space(report: &mut Report, line: Option<usize>, index: usize, harts: u64
         Piece::Number(index as u64),
         Piece::Text(": "),
     ];
-    let spot = Spot {
-        line,
-        place: &place,
-    };
+    let spot = Spot { at, place: &place };
     tell_words(report, spot, harts, text);
 }
 
@@ -147,7 +151,7 @@ fn tell_words(report: &mut Report, spot: Spot<'_>, harts: u64, text: &str)
     };
     if is_home(home, harts) {
         let why = Piece::Text(" where ASID is expected: a number below 65536");
-        report.tell(spot, &[Piece::Word(text_of(asid)), why]);
+        report.tell(spot.at_word(1), &[Piece::Word(text_of(asid)), why]);
         return;
     }
     let what = [
@@ -155,5 +159,5 @@ fn tell_words(report: &mut Report, spot: Spot<'_>, harts: u64, text: &str)
         Piece::Text(" where HOME is expected: the number of a hart, 0 to "),
         Piece::Number(harts.saturating_sub(1)),
     ];
-    report.tell(spot, &what);
+    report.tell(spot.at_word(0), &what);
 }

@@ -4,6 +4,7 @@ ghost use Rattle.std.specs.Prelude.{◌≤◌};
 
 use crate::fields::{expected, is_right};
 use crate::forms::{Form, names};
+use crate::meant::word_meant;
 use crate::near::nearest;
 use crate::report::{Piece, Report, Spot};
 use crate::split::{text_of, word_at};
@@ -108,6 +109,7 @@ impl Reader {
         };
         if at == 1 && num(first).is_none() {
             let why = " where the number of the hart is expected";
+            let spot = spot.at_word(0);
             report.tell(spot, &[Piece::Word(text_of(first)), Piece::Text(why)]);
             return true;
         }
@@ -115,7 +117,7 @@ impl Reader {
             report.tell(spot, &[Piece::Text(NO_NAME)]);
             return true;
         };
-        self.tell_unknown(report, spot, text_of(name))
+        self.tell_unknown(report, spot.at_word(at), text_of(name))
     }
 
     /// Reports what is wrong with the name of a step, if it is none. Answers whether it is none.
@@ -151,6 +153,10 @@ impl Reader {
         for index in 0..form.count() {
             if let Some(field) = form.field_at(index) {
                 let word = word_at(text, index).map(|word| text_of(word));
+                let spot = match word {
+                    Some(_) => spot.at_word(index),
+                    None => spot,
+                };
                 if self.tell_field(report, spot, form, field, word) {
                     return true;
                 }
@@ -163,6 +169,7 @@ impl Reader {
             Piece::Word(text_of(word)),
             Piece::Text(" is a word too many"),
         );
+        let spot = spot.at_word(form.count());
         report.tell(spot, &[word, is, WRITTEN, Piece::Form(form)]);
         true
     }
@@ -178,21 +185,16 @@ impl Reader {
     ) -> bool
         ensures { IsStillTrue report.old.is_out_of_memory report.new.is_out_of_memory }
     {
-        let expected = Piece::Text(expected(field));
-        let (name, form) = (Piece::Text(field.label()), Piece::Form(form));
         let Some(word) = word else {
-            let is = Piece::Text(" is missing: ");
-            report.tell(spot, &[name, is, expected, WRITTEN, form]);
+            tell_missing(report, spot, form, field);
             return true;
         };
-        if is_right(field, self.scheme, word) {
+        if is_right(field, self.scheme, word.as_bytes()) {
             return false;
         }
-        let (at, is) = (Piece::Text(" where "), Piece::Text(" is expected: "));
-        report.tell(
-            spot,
-            &[Piece::Word(word), at, name, is, expected, WRITTEN, form],
-        );
+        let found = word_meant(report.alloc, self.scheme, field, word.as_bytes());
+        let meant = report.meant(found);
+        tell_wrong(report, spot, form, field, word, meant.as_slice());
         true
     }
 
@@ -204,7 +206,8 @@ impl Reader {
             if let Some(hart) = self.absent_at(form, text, index) {
                 let is = Piece::Text(" is not there: the harts are 0 to ");
                 let last = Piece::Number(u64::from(self.harts.saturating_sub(1)));
-                report.tell(spot, &[Piece::Text("hart "), Piece::Number(hart), is, last]);
+                let what = [Piece::Text("hart "), Piece::Number(hart), is, last];
+                report.tell(spot.at_word(index), &what);
                 return true;
             }
         }
@@ -239,12 +242,52 @@ impl Reader {
                 let word = word_at(text, index).unwrap_or(b"".as_slice());
                 let why = Piece::Text(wrong_base(self.scheme, word));
                 let is = Piece::Text(" is no page: ");
-                report.tell(spot, &[Piece::Word(text_of(word)), is, why]);
+                let what = [Piece::Word(text_of(word)), is, why];
+                report.tell(spot.at_word(index), &what);
                 return true;
             }
         }
         false
     }
+}
+
+/// Reports that the word of a field is missing.
+fn tell_missing(report: &mut Report, spot: Spot<'_>, form: Form, field: Field)
+    ensures { IsStillTrue report.old.is_out_of_memory report.new.is_out_of_memory }
+{
+    let (name, is) = (Piece::Text(field.label()), Piece::Text(" is missing: "));
+    let what = [
+        name,
+        is,
+        Piece::Text(expected(field)),
+        WRITTEN,
+        Piece::Form(form),
+    ];
+    report.tell(spot, &what);
+}
+
+/// Reports that a word is wrong for a field, and which one is meant perhaps.
+fn tell_wrong<'a>(
+    report: &mut Report,
+    spot: Spot<'_>,
+    form: Form,
+    field: Field,
+    word: &'a str,
+    meant: &'a [u8],
+)
+    ensures { IsStillTrue report.old.is_out_of_memory report.new.is_out_of_memory }
+{
+    let what = [
+        Piece::Word(word),
+        Piece::Text(" where "),
+        Piece::Text(field.label()),
+        Piece::Text(" is expected: "),
+        Piece::Text(expected(field)),
+        WRITTEN,
+        Piece::Form(form),
+        Piece::Meant(meant),
+    ];
+    report.tell(spot, &what);
 }
 
 /// Reports that a word is no step of a command.

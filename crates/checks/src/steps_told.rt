@@ -3,6 +3,7 @@ ghost use Rattle.checks.specs.Told.{IsStillTrue};
 
 use crate::layout::tell_layout;
 use crate::places::Place;
+use crate::positions::Position;
 use crate::report::{Piece, Report, Spot};
 use crate::step_texts::{List, Reader};
 use crate::tables_told::tell_tables;
@@ -17,7 +18,13 @@ use toml::Value;
 const SCRIPT_TEXTS: &str = "an array of texts for each hart";
 
 /// Reports each text of a list that is no step.
-fn tell_texts(report: &mut Report, reader: &Reader, place: &Place, values: &[Value])
+fn tell_texts(
+    report: &mut Report,
+    document: &Document<'_>,
+    reader: &Reader,
+    place: &Place,
+    values: &[Value],
+)
     ensures { IsStillTrue report.old.is_out_of_memory report.new.is_out_of_memory }
 {
     for (index, value) in values.iter().enumerate() {
@@ -26,8 +33,8 @@ fn tell_texts(report: &mut Report, reader: &Reader, place: &Place, values: &[Val
         }
         let text = text_in(value);
         if let Some(fault) = reader.fault(text) {
-            let line = place.line_of(reader.list.group(), index);
-            tell_step(report, reader, line, index, text, fault);
+            let at = document.position(place, reader.list.group(), index);
+            tell_step(report, reader, at, index, text, fault);
         }
     }
 }
@@ -36,7 +43,7 @@ fn tell_texts(report: &mut Report, reader: &Reader, place: &Place, values: &[Val
 fn tell_step(
     report: &mut Report,
     reader: &Reader,
-    line: Option<usize>,
+    at: Position<'_>,
     index: usize,
     text: &str,
     fault: StepFault,
@@ -49,26 +56,17 @@ fn tell_step(
         List::Script(hart) => {
             let (script, hart) = (Piece::Text("script "), Piece::Number(hart as u64));
             let place = [script, hart, Piece::Text(" "), step, number, end];
-            let spot = Spot {
-                line,
-                place: &place,
-            };
+            let spot = Spot { at, place: &place };
             reader.tell(report, spot, text, fault);
         }
         List::Setup => {
             let place = [Piece::Text("setup "), step, number, end];
-            let spot = Spot {
-                line,
-                place: &place,
-            };
+            let spot = Spot { at, place: &place };
             reader.tell(report, spot, text, fault);
         }
         List::Walk | List::Run => {
             let place = [step, number, end];
-            let spot = Spot {
-                line,
-                place: &place,
-            };
+            let spot = Spot { at, place: &place };
             reader.tell(report, spot, text, fault);
         }
     }
@@ -85,7 +83,7 @@ fn tell_list(
     ensures { IsStillTrue report.old.is_out_of_memory report.new.is_out_of_memory }
 {
     let place = document.place(report, key);
-    tell_texts(report, reader, &place, values)
+    tell_texts(report, document, reader, &place, values)
 }
 
 /// Reports that there are too many steps.
@@ -193,17 +191,23 @@ fn tell_scripts(report: &mut Report, document: &Document<'_>, reader: Reader, sc
     if scripts.iter().any(|script| texts_in(script).is_none()) {
         place.marks.clear();
     }
-    tell_each_script(report, reader, &place, scripts)
+    tell_each_script(report, document, reader, &place, scripts)
 }
 
-fn tell_each_script(report: &mut Report, reader: Reader, place: &Place, scripts: &[Value])
+fn tell_each_script(
+    report: &mut Report,
+    document: &Document<'_>,
+    reader: Reader,
+    place: &Place,
+    scripts: &[Value],
+)
     ensures { IsStillTrue report.old.is_out_of_memory report.new.is_out_of_memory }
 {
     for (hart, script) in scripts.iter().enumerate() {
         let mut reader = reader;
         reader.list = List::Script(hart);
         if let Some(values) = texts_in(script) {
-            tell_texts(report, &reader, place, values);
+            tell_texts(report, document, &reader, place, values);
         }
     }
 }

@@ -2,6 +2,7 @@
 ghost use Rattle.checks.specs.Told.{IsStillTrue};
 
 use crate::places::Place;
+use crate::positions::Position;
 use crate::report::{Piece, Report, Spot};
 use crate::split::{number_of, text_of, word_at};
 use crate::values::{Document, text_in, texts_in};
@@ -51,7 +52,7 @@ fn tell_frames(report: &mut Report, document: &Document<'_>)
         document.tell(report, Key::Frames, &what);
     }
     let place = document.place(report, Key::Frames);
-    tell_each_frame(report, &place, values)
+    tell_each_frame(report, document, &place, values)
 }
 
 /// The PPN that a text writes.
@@ -59,7 +60,7 @@ fn ppn_in(value: &Value) -> Option<u64> {
     number_of(text_in(value)).filter(|ppn| *ppn < PPN_LIMIT)
 }
 
-fn tell_each_frame(report: &mut Report, place: &Place, values: &[Value])
+fn tell_each_frame(report: &mut Report, document: &Document<'_>, place: &Place, values: &[Value])
     ensures { IsStillTrue report.old.is_out_of_memory report.new.is_out_of_memory }
 {
     for (index, value) in values.iter().enumerate() {
@@ -67,13 +68,14 @@ fn tell_each_frame(report: &mut Report, place: &Place, values: &[Value])
             break;
         }
         if ppn_in(value).is_none() {
-            tell_frame(report, place.line_in_array(index), index, text_in(value));
+            let at = document.position_in_array(place, index);
+            tell_frame(report, at, index, text_in(value));
         }
     }
 }
 
 /// Reports that the text of a frame is no PPN.
-fn tell_frame(report: &mut Report, line: Option<usize>, index: usize, text: &str)
+fn tell_frame(report: &mut Report, at: Position<'_>, index: usize, text: &str)
     ensures { IsStillTrue report.old.is_out_of_memory report.new.is_out_of_memory }
 {
     let number = Piece::Number(index.saturating_add(1) as u64);
@@ -85,7 +87,7 @@ fn tell_frame(report: &mut Report, line: Option<usize>, index: usize, text: &str
         Piece::Text(" is no PPN, a number below "),
         Piece::Limit(PPN_LIMIT),
     ];
-    report.tell(Spot { line, place: &[] }, &what);
+    report.tell(Spot { at, place: &[] }, &what);
 }
 
 /// The PPNs of the frames. `None`: they are not known, as something is wrong with them.
@@ -123,23 +125,24 @@ fn tell_words(report: &mut Report, document: &Document<'_>, values: &[Value])
 {
     let place = document.place(report, Key::Words);
     let frames = frames_of(report, document);
-    tell_each_word(report, &place, frames.as_ref(), values);
+    tell_each_word(report, document, &place, frames.as_ref(), values);
 }
 
-fn tell_each_word(report: &mut Report, place: &Place, frames: Option<&Vec<u64>>, values: &[Value])
+fn tell_each_word(
+    report: &mut Report,
+    document: &Document<'_>,
+    place: &Place,
+    frames: Option<&Vec<u64>>,
+    values: &[Value],
+)
     ensures { IsStillTrue report.old.is_out_of_memory report.new.is_out_of_memory }
 {
     for (index, value) in values.iter().enumerate() {
         if report.is_full() {
             break;
         }
-        tell_word(
-            report,
-            place.line_in_array(index),
-            index,
-            frames,
-            text_in(value),
-        );
+        let at = document.position_in_array(place, index);
+        tell_word(report, at, index, frames, text_in(value));
     }
 }
 
@@ -147,7 +150,7 @@ fn tell_each_word(report: &mut Report, place: &Place, frames: Option<&Vec<u64>>,
 /// be unknown.
 fn tell_word(
     report: &mut Report,
-    line: Option<usize>,
+    at: Position<'_>,
     index: usize,
     frames: Option<&Vec<u64>>,
     text: &str,
@@ -156,10 +159,7 @@ fn tell_word(
 {
     let number = Piece::Number(index.saturating_add(1) as u64);
     let place = [Piece::Text("text "), number, Piece::Text(" of words: ")];
-    let spot = Spot {
-        line,
-        place: &place,
-    };
+    let spot = Spot { at, place: &place };
     if word_at(text, 2).is_none() || word_at(text, 3).is_some() {
         let why = Piece::Text(" is not three numbers PPN INDEX WORD");
         report.tell(spot, &[Piece::Word(text), why]);
@@ -175,6 +175,7 @@ fn tell_parts(report: &mut Report, spot: Spot<'_>, frames: Option<&Vec<u64>>, te
     for (index, why) in WRONG_PARTS.iter().enumerate() {
         let word = word_at(text, index).unwrap_or(b"".as_slice());
         if !is_part(frames, index, word) {
+            let spot = spot.at_word(index);
             report.tell(spot, &[Piece::Word(text_of(word)), Piece::Text(why)]);
             break;
         }

@@ -4,7 +4,9 @@ ghost use Rattle.files.specs.KeyTable.{name_of};
 ghost use Rattle.checks.specs.Places.{IsKeyLine};
 ghost use Rattle.checks.specs.Told.{IsStillTrue};
 
+use crate::meant::{number_in, scheme_meant};
 use crate::places::Place;
+use crate::positions::Position;
 use crate::report::{Piece, Report, Spot};
 use crate::split::number_of;
 use files::{Key, Kind};
@@ -49,7 +51,39 @@ impl<'a> Document<'a> {
             (λ number. IsKeyLine self.now.text.now (name_of key) number) }
         ensures still_short { IsStillTrue report.old.is_out_of_memory report.new.is_out_of_memory }
     {
-        Place::of_key(report, self.text, key.name())
+        self.place_of_name(report, key.name())
+    }
+
+    /// Where a key of this name, known or not, stands in the text; nowhere if there was not enough
+    /// memory.
+    fn place_of_name(&self, report: &mut Report, name: &str) -> Place
+        ensures line { IfSome result.line
+            (λ number. IsKeyLine self.now.text.now name.now number) }
+        ensures still_short { IsStillTrue report.old.is_out_of_memory report.new.is_out_of_memory }
+    {
+        match Place::of_key(report.alloc, self.text, name) {
+            Ok(place) => place,
+            Err(error) => {
+                report.note(Err(error));
+                Place::unknown(report.alloc)
+            }
+        }
+    }
+
+    /// The position of the text of this index in the array of this number among those of a key.
+    pub fn position(&self, place: &Place, group: usize, index: usize) -> Position<'a> {
+        match place.mark_of(group, index) {
+            Some(mark) => Position::of_mark(self.text, mark),
+            None => Position::unknown(),
+        }
+    }
+
+    /// The position of the text of this index in the array of a key, or else the line of the key.
+    pub fn position_in_array(&self, place: &Place, index: usize) -> Position<'a> {
+        match place.mark_of(0, index) {
+            Some(mark) => Position::of_mark(self.text, mark),
+            None => Position::of_line(place.line),
+        }
     }
 
     /// Reports what is wrong with a key.
@@ -63,15 +97,17 @@ impl<'a> Document<'a> {
     pub fn tell_of_name(&self, report: &mut Report, name: &str, what: &[Piece<'_>])
         ensures { IsStillTrue report.old.is_out_of_memory report.new.is_out_of_memory }
     {
-        let line = Place::of_key(report, self.text, name).line;
-        let place = [Piece::Text("key "), Piece::Word(name), Piece::Text(": ")];
-        report.tell(
-            Spot {
-                line,
-                place: &place,
-            },
-            what,
-        );
+        let line = self.place_of_name(report, name).line;
+        tell_at(report, Position::of_line(line), name, what);
+    }
+
+    /// Reports what is wrong with the text that is the value of a key.
+    fn tell_text(&self, report: &mut Report, key: Key, what: &[Piece<'_>])
+        ensures { IsStillTrue report.old.is_out_of_memory report.new.is_out_of_memory }
+    {
+        let place = self.place(report, key);
+        let at = self.position_in_array(&place, 0);
+        tell_at(report, at, key.name(), what);
     }
 
     /// Reports that the value of a key is of the wrong kind.
@@ -191,13 +227,16 @@ impl<'a> Document<'a> {
             return;
         };
         let Some(n) = number_of(text) else {
-            self.tell(report, key, &[Piece::Word(text), Piece::Text(NO_NUMBER)]);
+            let found = number_in(report.alloc, text, limit);
+            let meant = report.meant(found);
+            let (no, meant) = (Piece::Text(NO_NUMBER), Piece::Meant(meant.as_slice()));
+            self.tell_text(report, key, &[Piece::Word(text), no, meant]);
             return;
         };
         match limit {
             Some(limit) if n >= limit => {
                 let is = Piece::Text(" is not below ");
-                self.tell(report, key, &[Piece::Word(text), is, Piece::Limit(limit)])
+                self.tell_text(report, key, &[Piece::Word(text), is, Piece::Limit(limit)])
             }
             _ => {}
         }
@@ -220,8 +259,10 @@ impl<'a> Document<'a> {
         if is_only_word(text, "sv48") {
             return Some(Scheme::Sv48);
         }
-        let what = [Piece::Word(text), Piece::Text(" is neither sv39 nor sv48")];
-        self.tell(report, Key::Mode, &what);
+        let neither = Piece::Text(" is neither sv39 nor sv48");
+        let meant = Piece::Meant(scheme_meant(text).as_bytes());
+        let what = [Piece::Word(text), neither, meant];
+        self.tell_text(report, Key::Mode, &what);
         None
     }
 
@@ -270,6 +311,14 @@ impl<'a> Document<'a> {
         ];
         self.tell(report, key, &what)
     }
+}
+
+/// Reports at a position what is wrong with a key of this name.
+fn tell_at(report: &mut Report, at: Position<'_>, name: &str, what: &[Piece<'_>])
+    ensures { IsStillTrue report.old.is_out_of_memory report.new.is_out_of_memory }
+{
+    let place = [Piece::Text("key "), Piece::Word(name), Piece::Text(": ")];
+    report.tell(Spot { at, place: &place }, what);
 }
 
 /// The whole number that a value is, if it is within the range.

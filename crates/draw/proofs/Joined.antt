@@ -1,16 +1,16 @@
 -- Texts in pieces are the shapes that they stand for.
 use Rattle.std.proofs.Common.{◌≡◌, ◌∙◌, ◌+◌, ◌++◌, ℕ, List, codes, refl, ap₂, sym, append_assoc}
 use Rattle.std.specs.Fmt.{decimal, digits}
-use Rattle.draw.specs.Rows.{pair, text_opening, with_hart, with_row}
+use Rattle.draw.specs.Rows.{numbers, pair, text_opening, with_hart, with_row}
 use Rattle.draw.specs.Shapes.{after, opening, text_begin}
 
-at_46 : codes "46" ≡ decimal 46
+at_84 : codes "84" ≡ decimal 84
 unfolding digits
-at_46 = refl
+at_84 = refl
 
-at_40 : codes "40" ≡ decimal 40
+at_78 : codes "78" ≡ decimal 78
 unfolding digits
-at_40 = refl
+at_78 = refl
 
 after_is : (a r : List ℕ) (n : ℕ) → after a n ++ r ≡ a ++ (decimal n ++ r)
 unfolding after
@@ -21,30 +21,31 @@ unfolding opening
 opening_is a b r = append_assoc a b r
 
 -- what is written of a row
-abbrev pub row_pieces : List ℕ → List ℕ → ℕ → ℕ → List ℕ
+abbrev pub row_pieces : List ℕ → List ℕ → ℕ → List ℕ → List ℕ
 row_pieces svg right y n =
-    svg ++ pair (codes "<line class='row' x1='46' y1='") (decimal y) ++ pair (codes "' x2='") right
-    ++ pair (codes "' y2='") (decimal y) ++ pair (codes "'/>\n<text class='number' x='40' y='") (decimal (y + 4))
-    ++ pair (codes "'>") (decimal n) ++ codes "</text>\n"
+    svg ++ pair (codes "<line class='row' x1='84' y1='") (decimal y) ++ pair (codes "' x2='") right
+    ++ pair (codes "' y2='") (decimal y) ++ pair (codes "'/>\n<text class='number' x='78' y='") (decimal (y + 4))
+    ++ codes "'>" ++ n ++ codes "</text>\n"
 
 -- a row, where the places are that each row has
-abbrev row_at : List ℕ → List ℕ → List ℕ → ℕ → ℕ → ℕ → List ℕ
+abbrev row_at : List ℕ → List ℕ → List ℕ → ℕ → ℕ → List ℕ → List ℕ
 row_at svg line number right y n =
     svg ++ (codes "<line class='row' x1='" ++ (line ++ (codes "' y1='" ++ (decimal y ++ (codes "' x2='" ++ (decimal right
     ++ (codes "' y2='" ++ (decimal y ++ (codes "'/>\n<text class='number' x='" ++ (number ++ (codes "' y='"
-    ++ (decimal (y + 4) ++ (codes "'>" ++ (decimal n ++ codes "</text>\n"))))))))))))))
+    ++ (decimal (y + 4) ++ (codes "'>" ++ (n ++ codes "</text>\n"))))))))))))))
 
-row_in_pieces : (svg : List ℕ) (right y n : ℕ) → row_pieces svg (decimal right) y n ≡ row_at svg (codes "46") (codes "40") right y n
+row_in_pieces : (svg n : List ℕ) (right y : ℕ) → row_pieces svg (decimal right) y n ≡ row_at svg (codes "84") (codes "78") right y n
 unfolding pair
-row_in_pieces svg right y n = simp (append_assoc) refl
+row_in_pieces svg n right y = simp (append_assoc) refl
 
-row_in_shapes : (svg : List ℕ) (right y n : ℕ) → with_row svg right y n ≡ row_at svg (decimal 46) (decimal 40) right y n
-row_in_shapes svg right y n = simp (append_assoc, after_is, opening_is) refl
+row_in_shapes : (svg : List ℕ) (right y first last : ℕ) → with_row svg right y first last
+    ≡ row_at svg (decimal 84) (decimal 78) right y (numbers first last)
+row_in_shapes svg right y first last = simp (append_assoc, after_is, opening_is) refl
 
-pub row_is : (svg : List ℕ) (right y n : ℕ) → row_pieces svg (decimal right) y n ≡ with_row svg right y n
-row_is svg right y n =
-    row_in_pieces svg right y n ∙ ap₂ (λ (line number : List ℕ). row_at svg line number right y n) at_46 at_40
-    ∙ sym (row_in_shapes svg right y n)
+pub row_is : (svg : List ℕ) (right y first last : ℕ) → row_pieces svg (decimal right) y (numbers first last) ≡ with_row svg right y first last
+row_is svg right y first last =
+    row_in_pieces svg (numbers first last) right y ∙ ap₂ (λ (line number : List ℕ). row_at svg line number right y (numbers first last)) at_84 at_78
+    ∙ sym (row_in_shapes svg right y first last)
 
 -- what is written of a text
 abbrev pub text_pieces : List ℕ → List ℕ → List ℕ → ℕ → List ℕ → List ℕ
@@ -68,22 +69,22 @@ pub text_is : (svg class words : List ℕ) (x y : ℕ) → text_pieces svg (text
 text_is svg class words x y = text_in_pieces svg class words x y ∙ sym (text_in_shapes svg class words x y)
 
 -- what is written of a head
-abbrev pub hart_pieces : List ℕ → ℕ → List ℕ → ℕ → List ℕ
-hart_pieces svg x y n =
+abbrev pub hart_pieces : List ℕ → ℕ → List ℕ → ℕ → ℕ → List ℕ
+hart_pieces svg x y n space =
     svg ++ pair (codes "<text class='hart' x='") (decimal x) ++ pair (codes "' y='") y ++ pair (codes "'>hart ") (decimal n)
-    ++ codes "</text>\n"
+    ++ pair (codes ", space ") (decimal space) ++ codes "</text>\n"
 
-abbrev hart_at : List ℕ → ℕ → ℕ → ℕ → List ℕ
-hart_at svg x y n =
+abbrev hart_at : List ℕ → ℕ → ℕ → ℕ → ℕ → List ℕ
+hart_at svg x y n space =
     svg ++ (codes "<text class='hart' x='" ++ (decimal x ++ (codes "' y='" ++ (decimal y
-    ++ (codes "'>hart " ++ (decimal n ++ codes "</text>\n"))))))
+    ++ (codes "'>hart " ++ (decimal n ++ (codes ", space " ++ (decimal space ++ codes "</text>\n"))))))))
 
-hart_in_pieces : (svg : List ℕ) (x y n : ℕ) → hart_pieces svg x (decimal y) n ≡ hart_at svg x y n
+hart_in_pieces : (svg : List ℕ) (x y n space : ℕ) → hart_pieces svg x (decimal y) n space ≡ hart_at svg x y n space
 unfolding pair
-hart_in_pieces svg x y n = simp (append_assoc) refl
+hart_in_pieces svg x y n space = simp (append_assoc) refl
 
-hart_in_shapes : (svg : List ℕ) (x y n : ℕ) → with_hart svg (record { x = x; y = y }) n ≡ hart_at svg x y n
-hart_in_shapes svg x y n = simp (append_assoc, after_is, opening_is) refl
+hart_in_shapes : (svg : List ℕ) (x y n space : ℕ) → with_hart svg (record { x = x; y = y }) n space ≡ hart_at svg x y n space
+hart_in_shapes svg x y n space = simp (append_assoc, after_is, opening_is) refl
 
-pub hart_is : (svg : List ℕ) (x y n : ℕ) → hart_pieces svg x (decimal y) n ≡ with_hart svg (record { x = x; y = y }) n
-hart_is svg x y n = hart_in_pieces svg x y n ∙ sym (hart_in_shapes svg x y n)
+pub hart_is : (svg : List ℕ) (x y n space : ℕ) → hart_pieces svg x (decimal y) n space ≡ with_hart svg (record { x = x; y = y }) n space
+hart_is svg x y n space = hart_in_pieces svg x y n space ∙ sym (hart_in_shapes svg x y n space)

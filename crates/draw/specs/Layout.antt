@@ -2,10 +2,10 @@
 use Rattle.std.specs.Prelude.{ℕ, ◌+◌, ◌*◌, ◌/◌}
 use Rattle.draw.specs.declared.layout.Column.{Column}
 
--- the top of a row: below the legend, the rows before it, and a line of heads for each 40 rows that
+-- the top of a row: below the title, the rows before it, and a line of heads for each 40 rows that
 -- have begun
 abbrev pub row_top : ℕ → ℕ
-row_top row = 222 + 26 * (row / 40) + 20 * row
+row_top row = 88 + 26 * (row / 40) + 20 * row
 
 -- the lane of walks and services: behind the lanes of messages and of orders
 abbrev pub doing_x : Column → ℕ

@@ -13,16 +13,28 @@ pub const ROWS_A_HEAD: u32 = 40;
 /// How high a line of heads is.
 pub const HEAD_HEIGHT: u64 = 26;
 
-/// How high the title and the legend are.
-pub const LEGEND_HEIGHT: u64 = 196;
+/// How high the title and the line below it are.
+pub const TITLE_HEIGHT: u64 = 62;
+
+/// How high an entry of the legend is.
+pub const ENTRY_HEIGHT: u64 = 20;
 
 /// Where the first column begins: the numbers of the rows stand before it.
-pub const FIRST_COLUMN: u32 = 52;
+pub const FIRST_COLUMN: u32 = 90;
 
 /// How wide a picture is at least: as wide as the legend.
 pub const LEAST_WIDTH: u64 = 690;
 
+/// How wide a picture is at most, unless it has so many columns or a longer text of a step.
+pub const PAGE_WIDTH: u64 = 1800;
+
+/// How wide a character of the title is at most.
+pub const TITLE_CHAR_WIDTH: u64 = 10;
+
 const MARGIN: u64 = 10;
+
+/// How far below the last row the middle of the first entry of the legend is.
+const LEGEND_GAP: u64 = 40;
 
 const FLIGHT_WIDTH: u64 = 9;
 
@@ -34,7 +46,7 @@ const HEAD_WIDTH: u64 = 10;
 const DOING_WIDTH: u64 = 18;
 
 /// How wide a character of a step's text is at most.
-const CHAR_WIDTH: u64 = 7;
+pub const CHAR_WIDTH: u64 = 7;
 
 const LABEL_CHAR_WIDTH: u64 = 7;
 
@@ -69,20 +81,29 @@ pub fn heads_above(row: u32) -> u32
 /// The top of a row, counted from 0.
 pub fn row_top(row: u32) -> u64
     ensures value { result ≡ row_top row }
-    ensures above { 222 ≤ result }
+    ensures above { 88 ≤ result }
     ensures bound { result < 2 ^ 40 }
 {
     let heads = u64::from(heads_above(row));
-    LEGEND_HEIGHT + heads * HEAD_HEIGHT + u64::from(row) * ROW_HEIGHT
+    TITLE_HEIGHT + heads * HEAD_HEIGHT + u64::from(row) * ROW_HEIGHT
 }
 
 /// The middle of a row.
 pub fn row_middle(row: u32) -> u64
     ensures value { result ≡ row_top row + 10 }
-    ensures above { 222 ≤ result }
+    ensures above { 98 ≤ result }
     ensures bound { result < 2 ^ 41 }
 {
     row_top(row) + ROW_HEIGHT / 2
+}
+
+/// The middle of an entry of the legend, which stands below this many rows.
+pub fn entry_middle(rows: u32, entry: u8) -> u64
+    ensures value { result ≡ row_top rows + 20 * entry + 40 }
+    ensures above { 128 ≤ result }
+    ensures bound { result < 2 ^ 41 }
+{
+    row_top(rows) + u64::from(entry) * ENTRY_HEIGHT + LEGEND_GAP
 }
 
 impl Column {

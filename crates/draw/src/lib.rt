@@ -5,24 +5,33 @@
 //! that as SVG: `layout` says where things stand, `shapes` has the elements, `style` how they look.
 #![tactic(auto)]
 
+mod bars;
+mod columns;
+mod comments;
+mod file_comments;
+mod fills;
+mod heading;
 mod lanes;
 mod layout;
 mod legend;
+mod owners;
 mod picture;
 mod record;
 mod recorder;
 mod rows;
 mod run;
 mod shapes;
+mod sheet;
 mod step_words;
 mod style;
+mod tints;
 
 pub use layout::{
-    Column, FIRST_COLUMN, HEAD_HEIGHT, LEAST_WIDTH, Point, ROW_HEIGHT, ROWS_A_HEAD, heads_above,
-    row_middle, row_top,
+    Column, FIRST_COLUMN, HEAD_HEIGHT, LEAST_WIDTH, Point, ROW_HEIGHT, ROWS_A_HEAD, entry_middle,
+    heads_above, row_middle, row_top,
 };
-pub use legend::push_legend;
-pub use picture::draw_text;
+pub use legend::{KINDS, Kind, push_entry};
+pub use picture::{draw_file, draw_text};
 pub use shapes::{
     Area, push_arrow, push_dot, push_escaped, push_full_head, push_line, push_number,
     push_open_head, push_rect, push_text,

@@ -1,7 +1,8 @@
 //! What is open while a run is recorded, hart by hart.
 
+use crate::fills::Fills;
 use crate::lanes::Lanes;
-use crate::layout::Column;
+use crate::layout::{CHAR_WIDTH, Column};
 use crate::record::{Arrow, Bar, Message, Span};
 use pte::{PAGE_BYTES, Page, VirtAddr};
 use stale::stale_page;
@@ -39,25 +40,35 @@ pub struct Held {
     pub entry: Entry,
     pub page: Page,
     pub first: u32,
+    /// Since which row the TLB held it and it was valid.
+    pub valid: Option<u32>,
+    /// Whether the order for it names the hart.
+    pub is_named: bool,
     /// The number of the page of 4 KiB that was found to be stale last.
     pub found: u64,
 }
 
 impl Held {
     /// What a TLB holds by an entry since it became stale in a page.
-    pub fn new(entry: Entry, page: Page, first: u32) -> Held {
+    pub fn new(entry: Entry, page: Page, first: u32, valid: Option<u32>, is_named: bool) -> Held {
         Held {
             entry,
             page,
             first,
+            valid,
+            is_named,
             found: page.base().get() / PAGE_BYTES,
         }
     }
 
     /// The PPN that the entry has for the page.
     pub fn ppn(&self) -> u64 {
-        let bytes = self
-            .page
+        self.ppn_of(&self.page)
+    }
+
+    /// The PPN that the entry has for a page in its own.
+    pub fn ppn_of(&self, page: &Page) -> u64 {
+        let bytes = page
             .base()
             .get()
             .saturating_sub(self.entry.page.base().get());
@@ -74,10 +85,17 @@ pub struct Track {
     pub flights: Lanes<Flight>,
     pub orders: Lanes<OpenOrder>,
     pub stale: Lanes<Held>,
-    /// How many characters the longest text of its steps has.
-    pub characters: usize,
+    pub fills: Fills,
     /// How many characters the longest label of its stale mappings has.
     pub label: usize,
+}
+
+/// How many characters of texts and labels a column has room for at most. Longer ones run over what
+/// is right of them.
+#[derive(Clone, Copy)]
+pub struct Room {
+    pub characters: u16,
+    pub label: u16,
 }
 
 /// A number of characters, as far as it can be.
@@ -94,21 +112,27 @@ impl Track {
             flights: Lanes::new(alloc),
             orders: Lanes::new(alloc),
             stale: Lanes::new(alloc),
-            characters: 0,
+            fills: Fills::new(),
             label: 0,
         }
     }
 
-    /// The column that has room for all that was open.
-    pub fn column(&self, left: u32) -> Column {
+    /// The column that has room for all that was open, and for this many characters of texts and
+    /// labels, if they have as many.
+    pub fn column(&self, left: u32, characters: usize, room: Room) -> Column {
         Column {
             left,
             flights: self.flights.count(),
             orders: self.orders.count(),
-            characters: short(self.characters),
+            characters: short(characters).min(room.characters),
             stale: self.stale.count(),
-            label: short(self.label),
+            label: short(self.label).min(room.label),
         }
+    }
+
+    /// How wide the longest label of its stale mappings is.
+    pub fn label_width(&self) -> u64 {
+        u64::from(short(self.label)) * CHAR_WIDTH
     }
 
     /// The lane of the message that has been under way longest, from a hart and, for an
@@ -160,7 +184,7 @@ impl Track {
         let Some(flight) = self.flights.get(lane) else {
             return Ok(());
         };
-        self.flights.close(lane);
+        self.flights.close(lane, last);
         Ok(arrows.push(Arrow {
             message: flight.message,
             sender: flight.sender,
@@ -250,7 +274,7 @@ impl Track {
         let Some(order) = self.orders.get(lane) else {
             return Ok(());
         };
-        self.orders.close(lane);
+        self.orders.close(lane, last);
         Ok(bars.push(Bar {
             span: Span::Order {
                 ticket: order.ticket,
@@ -288,11 +312,14 @@ impl Track {
         let Some(held) = self.stale.get(lane) else {
             return Ok(());
         };
-        self.stale.close(lane);
+        self.stale.close(lane, last);
+        self.fills.restore(&held.entry, last);
         Ok(bars.push(Bar {
             span: Span::Stale {
                 page: held.page,
                 ppn: held.ppn(),
+                valid: held.valid,
+                is_named: held.is_named,
             },
             hart,
             lane,

@@ -3,7 +3,7 @@
 
 ghost use Rattle.std.specs.Prelude.{ℕ, List, ◌≡◌, ◌<◌, ◌^◌, ◌++◌, OnOk, codes, string_bytes};
 ghost use Rattle.std.specs.Fmt.{decimal};
-ghost use Rattle.draw.specs.Rows.{pair, text_opening, with_hart, with_row};
+ghost use Rattle.draw.specs.Rows.{numbers, pair, text_opening, with_hart, with_row};
 ghost use Rattle.draw.specs.Shapes.{escape, text_begin};
 
 use crate::shapes::push_escaped;
@@ -21,35 +21,55 @@ fn push_pair(svg: &mut String, piece: &str, behind: &str) -> Result<(), AllocErr
     svg.push_str(behind)
 }
 
-/// Adds the line of a row, whose middle is at `y`, and its number. `right` has the digits of the
-/// place where the line ends.
-pub fn push_row(svg: &mut String, right: &str, y: u64, number: u64) -> Result<(), AllocError>
+/// Adds the end of an opening, and the number of a step, or those of a first and a last one.
+#[tactic(auto, unfolding(crate::specs::Rows::numbers, crate::specs::Rows::pair))]
+fn push_numbers(svg: &mut String, first: u64, last: u64) -> Result<(), AllocError>
+    ensures ok { OnOk result (string_bytes svg.new ≡ string_bytes svg.old ++ codes "'>"
+        ++ numbers first last) }
+{
+    push_pair(svg, "'>", Buffer::new().format(first))?;
+    if first == last {
+        return Ok(());
+    }
+    push_pair(svg, "-", Buffer::new().format(last))
+}
+
+/// Adds the line of a row, whose middle is at `y`, and the numbers of its first and last step.
+/// `right` has the digits of the place where the line ends.
+pub fn push_row(
+    svg: &mut String,
+    right: &str,
+    y: u64,
+    first: u64,
+    last: u64,
+) -> Result<(), AllocError>
     requires { y < 2 ^ 41 }
     ensures ok { (end : ℕ) → right.now ≡ decimal end → OnOk result (string_bytes svg.new
-        ≡ with_row (string_bytes svg.old) end y number) }
+        ≡ with_row (string_bytes svg.old) end y first last) }
 {
     let mut buffer = Buffer::new();
     let middle = buffer.format(y);
-    push_pair(svg, "<line class='row' x1='46' y1='", middle)?;
+    push_pair(svg, "<line class='row' x1='84' y1='", middle)?;
     push_pair(svg, "' x2='", right)?;
     push_pair(svg, "' y2='", middle)?;
     push_pair(
         svg,
-        "'/>\n<text class='number' x='40' y='",
+        "'/>\n<text class='number' x='78' y='",
         Buffer::new().format(y + 4),
     )?;
-    push_pair(svg, "'>", Buffer::new().format(number))?;
+    push_numbers(svg, first, last)?;
     svg.push_str("</text>\n")
 }
 
-/// Adds the head of a hart's column. `y` has the digits of its place.
-pub fn push_hart(svg: &mut String, x: u64, y: &str, hart: u64) -> Result<(), AllocError>
+/// Adds the head of a hart's column, with the space that it is in. `y` has the digits of its place.
+pub fn push_hart(svg: &mut String, x: u64, y: &str, hart: u64, space: u64) -> Result<(), AllocError>
     ensures ok { (low : ℕ) → y.now ≡ decimal low → OnOk result (string_bytes svg.new
-        ≡ with_hart (string_bytes svg.old) (record { x = x; y = low }) hart) }
+        ≡ with_hart (string_bytes svg.old) (record { x = x; y = low }) hart space) }
 {
     push_pair(svg, "<text class='hart' x='", Buffer::new().format(x))?;
     push_pair(svg, "' y='", y)?;
     push_pair(svg, "'>hart ", Buffer::new().format(hart))?;
+    push_pair(svg, ", space ", Buffer::new().format(space))?;
     svg.push_str("</text>\n")
 }
 

@@ -3,19 +3,22 @@
 ghost use Rattle.std.specs.Prelude.{◌≡◌, ◌+◌, IfErr, IfOk, OnOk, vec_len};
 ghost use Rattle.files.specs.declared.fault.Fault.TheVariants.{NoMemory};
 
-use crate::layout::FIRST_COLUMN;
-use crate::record::{Message, Record, Row, Span, StaleHit};
+use crate::columns::{columns_of, labels_end};
+use crate::comments::Comments;
+use crate::owners::{Mapping, find_owners};
+use crate::record::{Message, Record, Row, Span, StaleHit, Switch};
 use crate::recorder::{Doing, Flight, Held, OpenOrder, Track};
-use crate::step_words::{hart_of, push_step};
+use crate::sheet::Sheet;
+use crate::step_words::{hart_of, push_mapping};
 use files::{Fault, RunScenario};
-use lines::{push_hexadecimal, push_page};
-use pte::Page;
-use spaces::OpenFault;
+use shoot::HartSet;
+use spaces::{OpenFault, Place};
 use stale::{
     BecameStale, StaleAt, StaleItem, StaleUse, may_end_stale, may_end_stale_at, step_stale,
 };
 use std::alloc::{AllocError, Global};
 use stepcore::{Event, Machine, Reply};
+use tlb::Entry;
 
 /// A run while it is recorded: what is open, and what has ended.
 #[derive(Drop)]
@@ -26,15 +29,30 @@ struct Recorder {
     scratch: String,
 }
 
-/// Adds the label of a stale mapping: its page, and the PPN for it.
-pub fn push_mapping(text: &mut String, page: Page, ppn: u64) -> Result<(), AllocError> {
-    push_page(text, page)?;
-    text.push_str(" PPN 0x")?;
-    push_hexadecimal(text, ppn)
+/// The harts that a step names which opens an order; all, if it has no such word.
+fn named_by(event: &Event) -> HartSet {
+    match *event {
+        Event::Unmap { named, .. } | Event::Protect { named, .. } => HartSet::from(named),
+        _ => HartSet::from(u8::MAX),
+    }
+}
+
+/// The youngest entry of a hart's TLB.
+fn youngest(machine: &Machine, hart: u8) -> Option<Entry> {
+    if hart >= machine.harts() {
+        return None;
+    }
+    let tlb = machine.hart(hart).tlb();
+    tlb.entry(tlb.len().checked_sub(1)?)
 }
 
 impl Recorder {
-    fn new(alloc: Global, harts: u8, steps: usize) -> Result<Recorder, AllocError>
+    fn new(
+        alloc: Global,
+        harts: u8,
+        steps: usize,
+        comments: Comments,
+    ) -> Result<Recorder, AllocError>
         ensures { IfOk result (λ recorder. vec_len recorder.«record».rows ≡ 0) }
     {
         let mut tracks = Vec::new(alloc);
@@ -45,35 +63,30 @@ impl Recorder {
             tracks,
             record: Record {
                 columns: Vec::new(alloc),
+                labels_end: 0,
                 rows: Vec::with_capacity(alloc, steps)?,
-                texts: String::new(alloc),
+                sheet: Sheet::new(alloc, harts, comments)?,
                 bars: Vec::new(alloc),
                 arrows: Vec::new(alloc),
                 hits: Vec::new(alloc),
+                owners: Vec::new(alloc),
+                switches: Vec::new(alloc),
             },
             scratch: String::new(alloc),
         })
     }
 
-    /// Adds a row with the text of a step, and makes room for it in the column of the hart.
-    fn add_row(&mut self, event: &Event, reply: Reply) -> Result<(), AllocError>
+    /// Adds a row for a step, and its text.
+    fn add_row(&mut self, row: u32, event: &Event, reply: Reply) -> Result<(), AllocError>
         ensures { OnOk result (vec_len self.new.«record».rows ≡ vec_len self.old.«record».rows + 1) }
     {
-        let start = self.record.texts.len();
-        push_step(&mut self.record.texts, event, reply)?;
-        let length = self.record.texts.len().saturating_sub(start);
+        let is_hit = match self.record.hits.as_slice().last() {
+            Some(hit) => hit.row == row,
+            None => false,
+        };
+        let line = self.record.sheet.add(row, event, reply, is_hit)?;
         let hart = hart_of(event);
-        if let Some(track) = self.tracks.get_mut(usize::from(hart)) {
-            track.characters = track.characters.max(length);
-        }
-        let is_refused = matches!(reply, Reply::Refused(_));
-        Ok(
-            self.record.rows.push(Row {
-                hart,
-                is_refused,
-                length,
-            })?,
-        )
+        Ok(self.record.rows.push(Row { hart, line })?)
     }
 
     /// A walk or a service begins.
@@ -100,7 +113,7 @@ impl Recorder {
         ensures { self.new.«record».rows ≡ self.old.«record».rows }
     {
         match self.tracks.get_mut(usize::from(receiver)) {
-            Some(track) => track.flights.open(flight),
+            Some(track) => track.flights.open(flight, flight.first),
             None => Ok(()),
         }
     }
@@ -169,11 +182,14 @@ impl Recorder {
         ensures { self.new.«record».rows ≡ self.old.«record».rows }
     {
         match self.tracks.get_mut(usize::from(hart)) {
-            Some(track) => track.orders.open(OpenOrder {
-                ticket,
+            Some(track) => track.orders.open(
+                OpenOrder {
+                    ticket,
+                    first,
+                    done: None,
+                },
                 first,
-                done: None,
-            }),
+            ),
             None => Ok(()),
         }
     }
@@ -286,8 +302,28 @@ impl Recorder {
         Ok(())
     }
 
+    /// Remembers the entry that a step filled.
+    fn note_fill(&mut self, machine: &Machine, row: u32, event: &Event, reply: &Reply)
+        ensures { self.new.«record».rows ≡ self.old.«record».rows }
+    {
+        if !matches!(reply, Reply::Filled(_)) {
+            return;
+        }
+        let hart = hart_of(event);
+        if let Some(track) = self.tracks.get_mut(usize::from(hart)) {
+            if let Some(entry) = youngest(machine, hart) {
+                track.fills.add(entry, row);
+            }
+        }
+    }
+
     /// Begins a bar for a mapping that became stale, if it has none.
-    fn note_becoming(&mut self, row: u32, became: &BecameStale) -> Result<(), AllocError>
+    fn note_becoming(
+        &mut self,
+        row: u32,
+        event: &Event,
+        became: &BecameStale,
+    ) -> Result<(), AllocError>
         ensures { self.new.«record».rows ≡ self.old.«record».rows }
     {
         let Some(track) = self.tracks.get_mut(usize::from(became.hart)) else {
@@ -299,11 +335,13 @@ impl Recorder {
         {
             return Ok(());
         }
-        let held = Held::new(became.entry, became.page, row);
+        let valid = track.fills.valid_since(&became.entry);
+        let is_named = named_by(event).contains(became.hart);
+        let held = Held::new(became.entry, became.page, row, valid, is_named);
         self.scratch.clear();
-        push_mapping(&mut self.scratch, held.page, held.ppn())?;
+        push_mapping(&mut self.scratch, held.page, held.ppn(), is_named)?;
         track.label = track.label.max(self.scratch.len());
-        track.stale.open(held)
+        track.stale.open(held, valid.unwrap_or(row))
     }
 
     /// Marks an access that was answered by a stale mapping.
@@ -324,16 +362,52 @@ impl Recorder {
     }
 
     /// Records what a step did with stale mappings.
-    fn note_items(&mut self, row: u32, items: &[StaleAt]) -> Result<(), AllocError>
+    fn note_items(&mut self, row: u32, event: &Event, items: &[StaleAt]) -> Result<(), AllocError>
         ensures { self.new.«record».rows ≡ self.old.«record».rows }
     {
         for at in items {
             match &at.item {
-                StaleItem::Became(became) => self.note_becoming(row, became)?,
+                StaleItem::Became(became) => self.note_becoming(row, event, became)?,
                 StaleItem::Used(used) => self.note_hit(row, used)?,
             }
         }
         Ok(())
+    }
+
+    /// Records a step that is made: a leaf is stored, or a hart goes to another space.
+    fn note_place(
+        &mut self,
+        machine: &Machine,
+        row: u32,
+        event: &Event,
+        reply: &Reply,
+    ) -> Result<(), AllocError>
+        ensures { self.new.«record».rows ≡ self.old.«record».rows }
+    {
+        match *event {
+            Event::Map {
+                place,
+                page,
+                ppn,
+                ..
+            } if matches!(reply, Reply::Leaf) => {
+                let asid = match place {
+                    Place::Space(space) => machine.asid_of_space(space),
+                    Place::Kernel => None,
+                };
+                let mapping = Mapping { asid, page, ppn };
+                find_owners(
+                    self.tracks.as_slice(),
+                    row,
+                    &mapping,
+                    &mut self.record.owners,
+                )
+            }
+            Event::Switch { hart, space } => {
+                Ok(self.record.switches.push(Switch { row, hart, space })?)
+            }
+            _ => Ok(()),
+        }
     }
 
     /// Makes a step, and records it.
@@ -350,27 +424,29 @@ impl Recorder {
         let reply = step_stale(machine, *event, row as usize, items)?;
         if !matches!(reply, Reply::Refused(_)) {
             self.note(row, event, &reply)?;
-            self.note_items(row, items.as_slice())?;
+            self.note_fill(machine, row, event, &reply);
+            self.note_items(row, event, items.as_slice())?;
             if may_end_stale(event, &reply) {
                 self.note_drops(machine, row, event, &reply)?;
             }
+            self.note_place(machine, row, event, &reply)?;
         }
-        self.add_row(event, reply)
+        self.add_row(row, event, reply)
     }
 
     /// Ends all that is open, and lays out the columns.
-    fn close(mut self, last: u32) -> Result<Record, AllocError>
+    fn close(mut self, alloc: Global, rows: u32) -> Result<Record, AllocError>
         ensures { IfOk result (λ closed. closed.rows ≡ self.«record».rows) }
     {
+        self.record.sheet.close(rows)?;
+        let last = rows.saturating_sub(1);
         let mut hart: u8 = 0;
-        let mut left = FIRST_COLUMN;
         for track in self.tracks.as_mut_slice() {
             track.end_all(hart, last, &mut self.record.bars, &mut self.record.arrows)?;
-            let column = track.column(left);
-            left = u32::try_from(column.right()).unwrap_or(u32::MAX);
-            self.record.columns.push(column)?;
             hart = hart.saturating_add(1);
         }
+        self.record.columns = columns_of(alloc, self.tracks.as_slice(), &self.record.sheet)?;
+        self.record.labels_end = labels_end(self.tracks.as_slice(), self.record.columns.as_slice());
         Ok(self.record)
     }
 }
@@ -386,18 +462,18 @@ fn open(alloc: Global, scenario: &RunScenario) -> Result<Machine, Fault>
     }
 }
 
-/// Makes the steps of a scenario, and records them: a row for each.
-pub fn record(alloc: Global, scenario: &RunScenario) -> Result<Record, Fault>
+/// Makes the steps of a scenario, and records them with the comments at them: a row for each step.
+pub fn record(alloc: Global, scenario: &RunScenario, comments: Comments) -> Result<Record, Fault>
     ensures rows { IfOk result (λ made. vec_len made.rows ≡ vec_len scenario.now.events) }
     ensures error { IfErr result (λ fault. fault ≡ NoMemory) }
 {
     let mut machine = open(alloc, scenario)?;
-    let mut recorder = Recorder::new(alloc, machine.harts(), scenario.events.len())?;
+    let mut recorder = Recorder::new(alloc, machine.harts(), scenario.events.len(), comments)?;
     let mut items = Vec::new(alloc);
     let mut row: u32 = 0;
     for event in scenario.events.as_slice() {
         recorder.step(&mut machine, row, event, &mut items)?;
         row = row.saturating_add(1);
     }
-    Ok(recorder.close(row.saturating_sub(1))?)
+    Ok(recorder.close(alloc, row)?)
 }

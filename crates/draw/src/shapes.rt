@@ -1,6 +1,6 @@
 //! The shapes of a picture, as elements of SVG. A class names how a shape looks (`style`).
 
-ghost use Rattle.std.specs.Prelude.{◌≡◌, ◌∷◌, ◌++◌, [], IsTrue, OnOk, codes, string_bytes};
+ghost use Rattle.std.specs.Prelude.{◌≡◌, ◌∷◌, ◌++◌, ◌+◌, ◌-◌, ◌<◌, ◌^◌, [], IsTrue, OnOk, codes, string_bytes};
 ghost use Rattle.std.specs.Fmt.{decimal};
 ghost use Rattle.draw.specs.Shapes.{after, dot, escape, escaped, line, opening, path, rect, text_begin, turns};
 
@@ -229,4 +229,26 @@ pub fn push_open_head(svg: &mut String, class: &str, tip: Point) -> Result<(), A
 {
     push_path(svg, class, tip)?;
     svg.push_str("m-8,-5l8,5l-8,5'/>\n")
+}
+
+/// Adds the end of what a step ends: a line, and a short one across where it arrives.
+pub fn push_end(svg: &mut String, from: Point, to: Point) -> Result<(), AllocError>
+    requires { to.y < 2 ^ 63 }
+    ensures ok { OnOk result (string_bytes svg.new ≡ string_bytes svg.old
+        ++ line (codes "end") from to ++ line (codes "end-mark") (record { x = to.x; y = to.y - 6 })
+        (record { x = to.x; y = to.y + 6 })) }
+{
+    push_line(svg, "end", from, to)?;
+    push_line(
+        svg,
+        "end-mark",
+        Point {
+            x: to.x,
+            y: to.y.saturating_sub(6),
+        },
+        Point {
+            x: to.x,
+            y: to.y + 6,
+        },
+    )
 }

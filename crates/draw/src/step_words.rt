@@ -7,7 +7,7 @@ use bitflags::Flags;
 use history::Scope;
 use itoa::Buffer;
 use lines::{push_harts, push_hexadecimal, push_page, push_reply};
-use pte::{Access, Ctx, Mode, PteFlags};
+use pte::{Access, Ctx, Mode, Page, PteFlags};
 use shoot::HartSet;
 use spaces::Place;
 use std::alloc::AllocError;
@@ -161,9 +161,45 @@ fn push_event(text: &mut String, event: &Event) -> Result<(), AllocError> {
     Ok(())
 }
 
-/// Adds the words of a step without its hart, a colon, and the words of its reply.
-pub fn push_step(text: &mut String, event: &Event, reply: Reply) -> Result<(), AllocError> {
+/// Adds the words of steps that stand in one line: a step, and loads after it.
+fn push_events(text: &mut String, event: &Event, loads: u32) -> Result<(), AllocError> {
+    if loads == 0 {
+        return push_event(text, event);
+    }
+    if matches!(*event, Event::Load { .. }) {
+        let all = u64::from(loads) + 1;
+        push_number(text, all)?;
+        return text.push_str(" loads");
+    }
     push_event(text, event)?;
+    text.push_str(" (")?;
+    push_number(text, u64::from(loads))?;
+    text.push_str(if loads == 1 { " load)" } else { " loads)" })
+}
+
+/// Adds the words of a step, and of loads after it, without their hart, a colon, and the words of
+/// the last reply.
+pub fn push_steps(
+    text: &mut String,
+    event: &Event,
+    loads: u32,
+    reply: Reply,
+) -> Result<(), AllocError> {
+    push_events(text, event, loads)?;
     text.push_str(": ")?;
     push_reply(text, reply)
+}
+
+/// Adds the label of a stale mapping: its page, the PPN for it, and whether the order for it does
+/// not name the hart.
+pub fn push_mapping(
+    text: &mut String,
+    page: Page,
+    ppn: u64,
+    is_named: bool,
+) -> Result<(), AllocError> {
+    push_page(text, page)?;
+    text.push_str(" PPN 0x")?;
+    push_hexadecimal(text, ppn)?;
+    text.push_str(if is_named { "" } else { ", not named" })
 }

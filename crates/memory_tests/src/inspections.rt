@@ -96,7 +96,7 @@ pub fn draw(alloc: Global) -> Verdict {
 pub fn check(alloc: Global) -> Verdict {
     let usual = Usual {
         status: 3,
-        first: "file for run\nline 2: step 2: `laod` is no step of run; ",
+        first: "file for run\na file:2:23: step 2: `laod` is no step of run; ",
         last: "perhaps load\n1 fault\n",
         line: "svsim: step 2: not a step\n",
     };

@@ -3,7 +3,10 @@ use Rattle.std.proofs.Common.{◌≡◌, ◌∙◌, ℕ, ◌≤◌, Bool, true, 
 use Rattle.std.specs.Prelude.{◌↔◌, option_map, string_bytes}
 use Rattle.std.proofs.lemmas.Option.{same_Some}
 use Rattle.toml.specs.Parse.{parse_document}
+use Rattle.checks.specs.Lines.{IsInOrder, told_line}
+use Rattle.checks.specs.Shown.{shown_name}
 use Rattle.checks.specs.Told.{fault_of, name_by, whole_text}
+use Rattle.checks.specs.declared.printed.Told.{Told}
 use Rattle.std.specs.Io.KnownBytes.{Appends, Keeps}
 use Rattle.std.proofs.KnownBytes.{Appends-nil, Keeps-refl}
 use Rattle.std.specs.Str.{IsUtf8, is_utf8}
@@ -159,21 +162,21 @@ told_none None (Some fault) is = (λ h. cc, λ h. cc)
 told_none (Some failure) None is = (λ h. cc, λ h. cc)
 told_none (Some failure) (Some fault) is = (λ h. cc, λ h. cc)
 
-no_lines : (lines : List (String Global)) → (length lines ≡ 0) ↔ (map string_bytes lines ≡ [])
-no_lines [] = (λ h. refl, λ h. refl)
-no_lines (line ∷ lines) = (λ h. absurd (omega (arith, h)), λ h. cc)
+no_told : (told : List Told) → (length told ≡ 0) ↔ (told ≡ [])
+no_told [] = (λ h. refl, λ h. refl)
+no_told (first ∷ told) = (λ h. absurd (omega (arith, h)), λ h. cc)
 
-pub told_of : (text : List ℕ) (first : Option Failure) (fault : Option Fault) (printed : List ℕ) (lines : List (String Global)) (n : ℕ) → n ≡ length lines → option_map failure_of fault ≡ option_map Some first
-    → (fault ≡ None) ↔ (n ≡ 0) → printed ≡ whole_text (name_by (parse_document text)) (map string_bytes lines) → TellsFaults text first printed
-told_of text first fault printed lines n many is none whole =
+pub told_of : (file text : List ℕ) (first : Option Failure) (fault : Option Fault) (printed : List ℕ) (told : List Told) (n : ℕ) → n ≡ length told → option_map failure_of fault ≡ option_map Some first
+    → (fault ≡ None) ↔ (n ≡ 0) → IsInOrder told → printed ≡ whole_text (name_by (parse_document text)) (map (told_line (shown_name file)) told) → TellsFaults file text first printed
+told_of file text first fault printed told n many is none order whole =
     let a = told_none first fault is in
-    let b = no_lines lines in
-    (map string_bytes lines, whole, (λ h. b.0 (sym many ∙ none.0 (a.0 h)), λ h. a.1 (none.1 (many ∙ b.1 h))))
+    let b = no_told told in
+    (told, whole, order, (λ h. b.0 (sym many ∙ none.0 (a.0 h)), λ h. a.1 (none.1 (many ∙ b.1 h))))
 
-pub checked_so : (text : List ℕ) (fault : Option Fault) (printed : List ℕ) → option_map failure_of fault ≡ option_map Some (fault_of text) → TellsFaults text (fault_of text) printed
-    → IsFound check text printed (finding_of fault)
-checked_so text fault printed is tells = go (fault_of text) fault refl is where
-  go : (first : Option Failure) (fault : Option Fault) → fault_of text ≡ first → option_map failure_of fault ≡ option_map Some first → IsFound check text printed (finding_of fault)
+pub checked_so : (file text : List ℕ) (fault : Option Fault) (printed : List ℕ) → option_map failure_of fault ≡ option_map Some (fault_of text) → TellsFaults file text (fault_of text) printed
+    → IsFound (check file) text printed (finding_of fault)
+checked_so file text fault printed is tells = go (fault_of text) fault refl is where
+  go : (first : Option Failure) (fault : Option Fault) → fault_of text ≡ first → option_map failure_of fault ≡ option_map Some first → IsFound (check file) text printed (finding_of fault)
   go None None none is = (none, tells, λ uses. uses)
   go None (Some fault) none is = cc
   go (Some failure) None some is = cc

@@ -56,32 +56,34 @@ show = printing run_scenario_of PrintsState
 abbrev pub draw : Meaning
 draw = record (printing run_scenario_of PrintsState) { Lines = λ text lines. Unit {0} }
 
-abbrev pub check : Meaning
-check = record {
+-- of a file of this name
+abbrev pub check : List ℕ → Meaning
+check file = record {
   fault = fault_of;
-  Lines = λ text. TellsFaults text (fault_of text);
+  Lines = λ text. TellsFaults file text (fault_of text);
   FindsUses = λ text. ⊥;
   Explains = Unit {0};
   StartsThreads = ⊥;
 }
 
-abbrev pub meaning_of : Which → Meaning
-meaning_of Walk = walk
-meaning_of Run = run
-meaning_of Stale = stale
-meaning_of Show = show
-meaning_of Draw = draw
-meaning_of Check = check
+-- of a file of this name, which all but `check` ignore
+abbrev pub meaning_of : List ℕ → Which → Meaning
+meaning_of file Walk = walk
+meaning_of file Run = run
+meaning_of file Stale = stale
+meaning_of file Show = show
+meaning_of file Draw = draw
+meaning_of file Check = check file
 
 -- how a command reads its file: whole, and then it answers, or line by line
 pub data Reading : Type 1 where
   whole : Meaning → Reading
   by_lines : Reading
 
-abbrev pub reading_of : Command → Reading
-reading_of (Plain which) = whole (meaning_of which)
-reading_of Live = whole live
-reading_of Watch = by_lines
+abbrev pub reading_of : List ℕ → Command → Reading
+reading_of file (Plain which) = whole (meaning_of file which)
+reading_of file Live = whole live
+reading_of file Watch = by_lines
 
 -- ---- the words
 

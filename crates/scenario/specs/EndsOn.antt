@@ -22,4 +22,4 @@ EndsOn remaining command file None status out_old out_new err_old err_new =
     Reports file unreadable status err_old err_new × Keeps out_old out_new
 EndsOn remaining command file (Some reader) status out_old out_new err_old err_new =
     (bytes : List ℕ) × AreLeft (remaining reader) bytes
-    × EndsReading (reading_of command) file bytes status out_old out_new err_old err_new
+    × EndsReading (reading_of file command) file bytes status out_old out_new err_old err_new

@@ -17,7 +17,10 @@ use Rattle.stale.specs.Told.{UsedBy}
 use Rattle.scenario.specs.Printed.{Prints as PrintsItems}
 use Rattle.tlb.specs.Mappings.{Mapping}
 use Rattle.lines.specs.Sheet.{Shows}
+use Rattle.checks.specs.Lines.{IsInOrder, told_line}
+use Rattle.checks.specs.Shown.{shown_name}
 use Rattle.checks.specs.Told.{name_by, whole_text}
+use Rattle.checks.specs.declared.printed.Told.{Told}
 use Rattle.toml.specs.Parse.{parse_document}
 
 -- what `walk` prints: the lines of the answers of its steps, over the memory that the file
@@ -64,11 +67,13 @@ PrintsStale plan lines = (used : Bool) × PrintsItems (setup_of plan.config) pla
 abbrev pub PrintsState : RunPlan → List ℕ → Type 0
 PrintsState plan lines = Shows plan.config plan.events lines
 
--- what `check` prints of a text with this first fault: the command that it is for, and lines that
--- explain, none if there is no fault
-abbrev pub TellsFaults : List ℕ → Option Failure → List ℕ → Type 0
-TellsFaults text first lines = (told : List (List ℕ))
-    × (lines ≡ whole_text (name_by (parse_document text)) told) × ((first ≡ None) ↔ (told ≡ []))
+-- what `check` prints of a text with this first fault: the command that it is for, and of each fault
+-- that is told a line that begins with the file's name, in the order of their lines and columns;
+-- none if there is no fault
+abbrev pub TellsFaults : List ℕ → List ℕ → Option Failure → List ℕ → Type 0
+TellsFaults file text first lines = (told : List Told)
+    × (lines ≡ whole_text (name_by (parse_document text)) (map (told_line (shown_name file)) told))
+    × IsInOrder told × ((first ≡ None) ↔ (told ≡ []))
 
 -- a stale mapping answers some access of the scenario
 abbrev pub UsesOf : Result RunPlan Failure → Type 0

@@ -14,9 +14,9 @@ ghost use Rattle.scenario.specs.WorkedFiles.{IsOkLine};
 pub fn what_a_status_says()
     ensures done { (which : Which) (file bytes : List ℕ)
         (out_old out_new err_old err_new : Option (List ℕ))
-        → Ends (meaning_of which) file bytes 0 out_old out_new err_old err_new
-        → (file_fault (meaning_of which) bytes ≡ None)
-        × WritesAll ((meaning_of which).Lines bytes) out_old out_new
+        → Ends (meaning_of file which) file bytes 0 out_old out_new err_old err_new
+        → (file_fault (meaning_of file which) bytes ≡ None)
+        × WritesAll ((meaning_of file which).Lines bytes) out_old out_new
         × AppendsFront err_old err_new [] }
     ensures live_done { (file bytes : List ℕ) (out_old out_new err_old err_new : Option (List ℕ))
         → Ends live file bytes 0 out_old out_new err_old err_new
@@ -24,8 +24,8 @@ pub fn what_a_status_says()
         × AppendsFront err_old err_new [] }
     ensures refused { (which : Which) (file bytes : List ℕ)
         (out_old out_new err_old err_new : Option (List ℕ))
-        → Ends (meaning_of which) file bytes 3 out_old out_new err_old err_new
-        → (failure : Failure) × (file_fault (meaning_of which) bytes ≡ Some failure)
+        → Ends (meaning_of file which) file bytes 3 out_old out_new err_old err_new
+        → (failure : Failure) × (file_fault (meaning_of file which) bytes ≡ Some failure)
         × AppendsFront err_old err_new (error_line file (refused failure)) }
     ensures live_refused { (file bytes : List ℕ)
         (out_old out_new err_old err_new : Option (List ℕ))

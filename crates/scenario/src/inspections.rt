@@ -7,7 +7,7 @@ use crate::finding::Finding;
 use crate::outcome::Outcome;
 use crate::stale_texts::stale_text;
 use checks::check_text;
-use draw::draw_text;
+use draw::draw_file;
 use files::{Fault, read_run};
 use lines::show_text;
 use std::alloc::{AllocError, Global};
@@ -47,14 +47,14 @@ pub(crate) fn state_of(alloc: Global, text: &str) -> Result<Outcome, Fault>
     Ok(Outcome::of_lines(show_text(alloc, &scenario)?))
 }
 
-/// The picture of a scenario of `run`.
-pub(crate) fn picture_of(alloc: Global, text: &str) -> Result<Outcome, Fault>
+/// The picture of a scenario of `run`, in a file of this name.
+pub(crate) fn picture_of(alloc: Global, file: &str, text: &str) -> Result<Outcome, Fault>
     ensures ok { IfOk result (λ outcome. IsFound draw text.now (string_bytes outcome.lines)
         outcome.finding) }
     ensures err { IfErr result (λ fault. IsUntold fault (draw.fault text.now)) }
 {
     let scenario = read_run(alloc, text)?;
-    Ok(Outcome::of_lines(draw_text(alloc, &scenario)?))
+    Ok(Outcome::of_lines(draw_file(alloc, file, text, &scenario)?))
 }
 
 /// What a check found.
@@ -67,12 +67,12 @@ fn finding_of(fault: Option<Fault>) -> Finding
     }
 }
 
-/// What is wrong with a file.
-pub(crate) fn checked(alloc: Global, text: &str) -> Result<Outcome, AllocError>
-    ensures { IfOk result (λ outcome. IsFound check text.now (string_bytes outcome.lines)
-        outcome.finding) }
+/// What is wrong with a file of this name.
+pub(crate) fn checked(alloc: Global, file: &str, text: &str) -> Result<Outcome, AllocError>
+    ensures { IfOk result (λ outcome. IsFound (check file.now) text.now
+        (string_bytes outcome.lines) outcome.finding) }
 {
-    let checked = check_text(alloc, text)?;
+    let checked = check_text(alloc, file, text)?;
     Ok(Outcome {
         lines: checked.text,
         finding: finding_of(checked.fault),

@@ -103,45 +103,50 @@ pub(crate) fn end<W: Write, E: Write>(
     }
 }
 
-/// What a command makes of a text, or its fault.
-fn plain_outcome(alloc: Global, which: Which, text: &str) -> Result<Outcome, Fault>
-    ensures ok { IfOk result (λ outcome. IsFound (meaning_of which) text.now
+/// What a command makes of the text of a file of this name, or its fault.
+fn plain_outcome(alloc: Global, which: Which, file: &str, text: &str) -> Result<Outcome, Fault>
+    ensures ok { IfOk result (λ outcome. IsFound (meaning_of file.now which) text.now
         (string_bytes outcome.lines) outcome.finding) }
-    ensures err { IfErr result (IsRefused (meaning_of which) text.now) }
+    ensures err { IfErr result (IsRefused (meaning_of file.now which) text.now) }
 {
     match which {
         Which::Walk => walked(alloc, text),
         Which::Run => replies_of(alloc, text),
         Which::Stale => stale_of(alloc, text),
         Which::Show => state_of(alloc, text),
-        Which::Draw => picture_of(alloc, text),
-        Which::Check => Ok(checked(alloc, text)?),
+        Which::Draw => picture_of(alloc, file, text),
+        Which::Check => Ok(checked(alloc, file, text)?),
     }
 }
 
-/// What a command makes of a text, or why nothing.
-fn outcome_of(alloc: Global, which: Which, text: &str) -> Result<Outcome, Trouble>
-    ensures ok { IfOk result (λ outcome. IsFound (meaning_of which) text.now
+/// What a command makes of the text of a file of this name, or why nothing.
+fn outcome_of(alloc: Global, which: Which, file: &str, text: &str) -> Result<Outcome, Trouble>
+    ensures ok { IfOk result (λ outcome. IsFound (meaning_of file.now which) text.now
         (string_bytes outcome.lines) outcome.finding) }
-    ensures err { IfErr result (IsUnanswered (meaning_of which) text.now) }
+    ensures err { IfErr result (IsUnanswered (meaning_of file.now which) text.now) }
 {
-    match plain_outcome(alloc, which, text) {
+    match plain_outcome(alloc, which, file, text) {
         Ok(outcome) => Ok(outcome),
         Err(fault) => Err(Trouble::Refused(fault)),
     }
 }
 
 /// What a command makes of the file that `input` reads, or why nothing.
-fn answer<R: Read>(alloc: Global, which: Which, input: &mut R) -> Result<Outcome, Trouble>
+fn answer<R: Read>(
+    alloc: Global,
+    which: Which,
+    file: &str,
+    input: &mut R,
+) -> Result<Outcome, Trouble>
     ensures answered { (bytes : List ℕ) × AreLeft (R.remaining input.old) bytes
-        × IsAnswered (meaning_of which) bytes result }
+        × IsAnswered (meaning_of file.now which) bytes result }
     ensures read { ReadsUpTo (most_bytes + 1) (R.remaining input.old) (R.remaining input.new) }
 {
     let bytes = read_file(alloc, input)?;
     let Ok(text) = str::from_utf8(bytes.as_slice()) else {
         return Err(Trouble::Refused(Fault::NotToml));
     };
-    outcome_of(alloc, which, text)
+    outcome_of(alloc, which, file, text)
 }
 
 /// Does a command on the file that `input` reads, and answers the status of the program: 0 done,
@@ -149,7 +154,7 @@ fn answer<R: Read>(alloc: Global, which: Which, input: &mut R) -> Result<Outcome
 /// large, or not TOML, 3 a refused scenario, 4 the output failed, 5 out of memory. At 2 to 5 one
 /// line goes to `err`, as far as it takes it; its own faults count for nothing. `check` writes what
 /// is wrong with a faulty file to `out`, at 2 and 3 too, if the file is UTF-8; the others write
-/// nothing then. `file` is the file's name in the line. No more than 1,048,577 bytes are read. A
+/// nothing then. `file` is the file's name in the line, and in those of `check`. No more than 1,048,577 bytes are read. A
 /// read that fails is `cannot read`; one that a signal interrupts is tried again (`read_retrying`).
 pub fn command<R: Read, W: Write, E: Write>(
     alloc: Global,
@@ -160,12 +165,12 @@ pub fn command<R: Read, W: Write, E: Write>(
     err: &mut E,
 ) -> u8
     ensures ends { (bytes : List ℕ) × AreLeft (R.remaining input.old) bytes
-        × Ends (meaning_of which) file.now bytes result (W.contents out.old)
+        × Ends (meaning_of file.now which) file.now bytes result (W.contents out.old)
         (W.contents out.new) (E.contents err.old) (E.contents err.new) }
-    ensures silent { ¬ (meaning_of which).Explains → (result ≡ 2) ⊎ (result ≡ 3)
+    ensures silent { ¬ (meaning_of file.now which).Explains → (result ≡ 2) ⊎ (result ≡ 3)
         → Keeps (W.contents out.old) (W.contents out.new) }
     ensures read { ReadsUpTo (most_bytes + 1) (R.remaining input.old) (R.remaining input.new) }
 {
-    let answered = answer(alloc, which, input);
+    let answered = answer(alloc, which, file, input);
     end(alloc, file, answered, out, err)
 }

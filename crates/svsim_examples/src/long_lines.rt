@@ -84,7 +84,7 @@ const LINES: [Line; 12] = [
         tail: "steps = [\"x\"]",
         errors: NOT_STEP,
         check: Told::Text(
-            "file for run\nline 1: step 1: `x` where the number of the hart is expected\n1 fault\n",
+            "file for run\nFILE:1:1048574: step 1: `x` where the number of the hart is expected\n1 fault\n",
         ),
     },
     // a comment is no text
@@ -115,7 +115,7 @@ const LINES: [Line; 12] = [
         units: &["\t"],
         tail: "\"]",
         errors: NOT_STEP,
-        check: Told::Text("file for run\nline 1: step 1: no word\n1 fault\n"),
+        check: Told::Text("file for run\nFILE:1:10: step 1: no word\n1 fault\n"),
     },
     Line {
         head: "steps = [\"",
@@ -123,7 +123,7 @@ const LINES: [Line; 12] = [
         tail: "\"]",
         errors: NOT_STEP,
         check: Told::Text(
-            "file for run\nline 1: step 1: `@` where the number of the hart is expected\n1 fault\n",
+            "file for run\nFILE:1:11: step 1: `@` where the number of the hart is expected\n1 fault\n",
         ),
     },
     // its last word, which is read letter by letter, and many words
@@ -133,7 +133,7 @@ const LINES: [Line; 12] = [
         tail: "\"]",
         errors: NOT_STEP,
         check: Told::Text(
-            "file for run\nline 1: step 1: `@` where NAMED is expected: harts joined by commas without blanks, as 0,1, or - for none; written: H flush SCOPE NAMED\n1 fault\n",
+            "file for run\nFILE:1:23: step 1: `@` where NAMED is expected: harts joined by commas without blanks, as 0,1, or - for none; written: H flush SCOPE NAMED\n1 fault\n",
         ),
     },
     Line {
@@ -142,7 +142,7 @@ const LINES: [Line; 12] = [
         tail: "\"]",
         errors: NOT_STEP,
         check: Told::Text(
-            "file for run\nline 1: step 1: `7` is a word too many; written: H load\n1 fault\n",
+            "file for run\nFILE:1:18: step 1: `7` is a word too many; written: H load\n1 fault\n",
         ),
     },
     // a step of a script
@@ -152,7 +152,7 @@ const LINES: [Line; 12] = [
         tail: "\"]]",
         errors: NOT_IN_SCRIPT,
         check: Told::Text(
-            "file for live\nline 1: script 0 step 1: the name of the step is missing\n1 fault\n",
+            "file for live\nFILE:1:13: script 0 step 1: the name of the step is missing\n1 fault\n",
         ),
     },
     // a key
@@ -165,7 +165,7 @@ const LINES: [Line; 12] = [
             run: "key @: wrong",
             live: "key @: wrong",
         },
-        check: Told::Text("file for run\nline 1: key `@`: no key of run\n1 fault\n"),
+        check: Told::Text("file for run\nFILE:1: key `@`: no key of run\n1 fault\n"),
     },
     // a number that blanks stand before
     Line {
@@ -248,7 +248,7 @@ impl Line {
     fn is_told(&self, alloc: Global, unit: &str, printed: &[u8]) -> Result<bool, AllocError> {
         match self.check {
             Told::NotToml => Ok(
-                printed.starts_with(b"file for no command\nline 1, column ".as_slice())
+                printed.starts_with(b"file for no command\nFILE:1:".as_slice())
                     && printed.ends_with(b"\n1 fault\n".as_slice()),
             ),
             Told::Text(text) => {

@@ -19,6 +19,12 @@ pub struct Shapes {
     pub stale: usize,
     /// Uses of stale mappings.
     pub hits: usize,
+    /// Stale mappings that a line joins to the fill.
+    pub lives: usize,
+    /// Steps that map a frame which a stale mapping reaches.
+    pub second_owners: usize,
+    /// Comments on lines of their own.
+    pub notes: usize,
 }
 
 impl Shapes {
@@ -35,7 +41,12 @@ impl Shapes {
             " (collected {}), stale {}",
             self.collected, self.stale
         )?;
-        write!(text, ", hits {}", self.hits)?;
+        write!(text, ", hits {}, lives {}", self.hits, self.lives)?;
+        write!(
+            text,
+            ", second owners {}, notes {}",
+            self.second_owners, self.notes
+        )?;
         Ok(text)
     }
 }
@@ -45,12 +56,13 @@ fn count(text: &str, words: &str) -> usize {
     text.split(words).count().saturating_sub(1)
 }
 
-/// How many shapes of a kind there are, but for the one in the legend.
+/// How many shapes of a kind there are, but for the one in a legend.
 fn beyond_legend(picture: &str, shape: &str) -> usize {
     count(picture, shape).saturating_sub(1)
 }
 
-/// The shapes of a picture. The legend has one of each kind, but for rows.
+/// The shapes of a picture. The legend has one of each kind that the picture has, but for rows and
+/// notes.
 pub fn shapes_of(picture: &str) -> Shapes {
     Shapes {
         rows: count(picture, "<text class='number'"),
@@ -64,5 +76,8 @@ pub fn shapes_of(picture: &str) -> Shapes {
         collected: beyond_legend(picture, "<path class='ack-head'"),
         stale: beyond_legend(picture, "<rect class='stale'"),
         hits: beyond_legend(picture, "<rect class='hit'"),
+        lives: beyond_legend(picture, "<path class='life'"),
+        second_owners: beyond_legend(picture, "<rect class='given'"),
+        notes: count(picture, "<text class='note'"),
     }
 }

@@ -25,6 +25,8 @@ mod no_steps;
 #[cfg(test)]
 mod pictures;
 #[cfg(test)]
+mod places;
+#[cfg(test)]
 mod printed;
 #[cfg(test)]
 mod readers_and_writers;

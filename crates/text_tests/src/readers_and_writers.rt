@@ -169,7 +169,7 @@ fn writers_of_inspections_that_are_full(rt: HostRuntime) {
 #[test]
 fn explanations_that_are_not_taken(rt: HostRuntime) -> Result<(), Fail> {
     let alloc = rt.alloc();
-    let lines = "file for run\nline 1: key `harts`: 9 is not from 1 to 8\n1 fault\n";
+    let lines = "file for run\na file:1: key `harts`: 9 is not from 1 to 8\n1 fault\n";
     for room in 0..lines.len() + 1 {
         let mut out = Narrow::new(alloc, 2, room, AtEnd::Fails);
         let mut err = Narrow::ample(alloc);

@@ -6,7 +6,10 @@ use Rattle.scenario.proofs.inspections.checked.Goals as goal
 
 pub returns : goal.returns
 returns c =
+    let file = c.args.file.now in
+    let text = c.args.text.now in
     let checked = c.in_ok-checked.checked in
-    let many : vec_len checked.lines ≡ length checked.lines.items = search rules in
-    let tells = told_of c.args.text.now (fault_of c.args.text.now) checked.fault (string_bytes checked.text) checked.lines.items _ many c.in_ok-checked.ensures.fault c.in_ok-checked.ensures.told c.in_ok-checked.ensures.text in
-    rw c.finding_of.ensures (checked_so c.args.text.now checked.fault (string_bytes checked.text) c.in_ok-checked.ensures.fault tells)
+    let found = c.in_ok-checked.ensures in
+    let many : vec_len checked.told ≡ length checked.told.items = search rules in
+    let tells = told_of file text (fault_of text) checked.fault (string_bytes checked.text) checked.told.items _ many found.fault found.told found.in_order found.text in
+    rw c.finding_of.ensures (checked_so file text checked.fault (string_bytes checked.text) found.fault tells)
