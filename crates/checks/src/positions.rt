@@ -8,7 +8,7 @@ pub struct Position<'a> {
     /// The line and the column, from 1 on.
     pub line: Option<usize>,
     pub column: Option<usize>,
-    /// What stands in the file from there to the end of a text's closing quote, if it is a text.
+    /// The text of the document that it is in, with its quotes; no bytes if it is in none.
     quoted: &'a [u8],
 }
 
@@ -46,7 +46,8 @@ impl<'a> Position<'a> {
         begin.behind(index)
     }
 
-    /// That of the word of this index of the text, if the text has no backslash, else the same.
+    /// Of the position of a text, that of the word of this index, if the text has no backslash, else
+    /// the same.
     pub fn at_word(self, index: usize) -> Position<'a> {
         match word_start(self.quoted, index) {
             Some(start) => self.behind(start),

@@ -1,5 +1,5 @@
 -- How a command ends, by what it made of a text.
-use Rattle.std.proofs.Common.{◌≡◌, ◌∙◌, ℕ, ◌≤◌, Bool, true, false, List, [], ◌∷◌, length, map, Option, Some, None, Result, Ok, Err, IfOk, IfErr, String, Global, inl, inr, sym, ap, subst, refl, true≢false, arith}
+use Rattle.std.proofs.Common.{◌≡◌, ◌∙◌, ℕ, ◌≤◌, Bool, true, false, List, [], ◌∷◌, length, map, Option, Some, None, Result, Ok, Err, IfOk, IfErr, inl, inr, sym, ap, subst, refl, true≢false, arith}
 use Rattle.std.specs.Prelude.{◌↔◌, option_map, string_bytes}
 use Rattle.std.proofs.lemmas.Option.{same_Some}
 use Rattle.toml.specs.Parse.{parse_document}
