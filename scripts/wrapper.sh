@@ -201,13 +201,13 @@ judge 'no fault' '' "$(sed 1d "$own/err")"
 
 # What names the file names it as the caller did, though the build read a copy
 forget
-printf 'check:3:5: a fault\n<text>draw: a run of 1 hart</text>\n' >"$own/lines"
+printf 'case:3:5: a fault\n<text class=\047subtitle\047>case: a run of 1 hart</text>\n' >"$own/lines"
 cp "$own/file.toml" "$own/a <b> & c.toml"
 judge 'the name in a line of check' "$own/a <b> & c.toml:3:5: a fault" "$("$svsim" check "$own/a <b> & c.toml" 2>/dev/null | head -n 1)"
-judge 'the name in a picture' '<text>a &lt;b&gt; &amp; c.toml: a run of 1 hart</text>' \
+judge 'the name in a picture' "<text class='subtitle'>a &lt;b&gt; &amp; c.toml: a run of 1 hart</text>" \
     "$("$svsim" draw "$own/a <b> & c.toml" 2>/dev/null | sed -n 2p)"
 judge 'another name of the same text' "$own/file.toml:3:5: a fault" "$("$svsim" check "$own/file.toml" 2>/dev/null | head -n 1)"
-judge 'no other command' 'check:3:5: a fault' "$(answer | head -n 1)"
+judge 'no other command' 'case:3:5: a fault' "$(answer | head -n 1)"
 : >"$own/lines"
 forget
 answer >/dev/null
