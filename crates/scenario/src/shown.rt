@@ -70,7 +70,7 @@ svsim show FILE makes the steps of a scenario, and prints the state after the la
 ";
 
 const DRAW: &str = "\
-svsim draw FILE makes the steps of a scenario, and prints a picture of them as SVG: a row a step, a column a hart.
+svsim draw FILE makes the steps of a scenario, and prints a picture of them as SVG: a row a step or a walk, a column a hart.
 
   svsim draw examples/shootdown.toml > shootdown.svg
 ";
