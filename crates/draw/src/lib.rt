@@ -1,6 +1,6 @@
 //! Pictures of runs: what the harts of a scenario do, step by step, as one SVG document.
 //!
-//! Time goes down, a row a step, and each hart has a column. `run` records a scenario: which bars
+//! Time goes down, a line a step or a walk, and each hart has a column. `run` records a scenario: which bars
 //! stand in which columns, from which row to which, and which rows an arrow joins. `picture` writes
 //! that as SVG: `layout` says where things stand, `shapes` has the elements, `style` how they look.
 #![tactic(auto)]
