@@ -58,14 +58,13 @@ fn words_of(kind: Kind) -> &'static str {
         Kind::Stale => {
             "stale: the TLB holds this page with this frame, and the tables do not map it so"
         }
-        Kind::Life =>
-            "the TLB holds this page with this frame, as the tables map it: since the fill",
+        Kind::Life => "valid: the TLB holds this page with this frame, and the tables map it so",
         Kind::End => "the step that ends a stale mapping, with a line to it",
         Kind::Hit => "an access that is answered by a stale mapping, with a line to it",
         Kind::SecondOwner => {
-            "a frame is mapped elsewhere while a TLB can still reach it, with a line to what reaches it"
+            "a frame is mapped elsewhere while a TLB still reaches it, with a line to what reaches it"
         }
-        Kind::Space => "the tint of a column: the space that its hart is in",
+        Kind::Space => "the tint of a column: the space that its hart is in, four tints in turn",
     }
 }
 

@@ -37,7 +37,20 @@ impl Mapping {
     }
 }
 
-/// Adds the stale mappings of which a mapping that was stored in a row is a second owner.
+/// The lane of the first stale mapping of a hart of which a mapping is a second owner.
+fn first_lane(track: &Track, mapping: &Mapping) -> Option<u16> {
+    for lane in 0..track.stale.count() {
+        if let Some(held) = track.stale.get(lane) {
+            if mapping.is_second_owner(&held) {
+                return Some(lane);
+            }
+        }
+    }
+    None
+}
+
+/// Adds, of each hart, the first stale mapping of which a mapping that was stored in a row is a second
+/// owner: one for each hart, so that a picture grows with its steps.
 pub fn find_owners(
     tracks: &[Track],
     row: u32,
@@ -46,12 +59,8 @@ pub fn find_owners(
 ) -> Result<(), AllocError> {
     let mut hart: u8 = 0;
     for track in tracks {
-        for lane in 0..track.stale.count() {
-            if let Some(held) = track.stale.get(lane) {
-                if mapping.is_second_owner(&held) {
-                    owners.push(SecondOwner { row, hart, lane })?;
-                }
-            }
+        if let Some(lane) = first_lane(track, mapping) {
+            owners.push(SecondOwner { row, hart, lane })?;
         }
         hart = hart.saturating_add(1);
     }

@@ -321,8 +321,9 @@ pub fn draw_text(alloc: Global, scenario: &RunScenario) -> Result<String, Fault>
 }
 
 /// The picture of the run of a file, of which this is the name and this the text that the scenario
-/// was read from: as `draw_text`, with the first sentence of the comment at its head as a title,
-/// below that the last component of the name, and the comments at the steps. An error comes only if there is no memory.
+/// was read from: as `draw_text`, with the first line of the comment at its head as a title, up to
+/// the end of a sentence; below that the last component of the name; and the comments at the steps.
+/// An error comes only if there is no memory.
 pub fn draw_file(
     alloc: Global,
     name: &str,

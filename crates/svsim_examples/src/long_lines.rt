@@ -218,6 +218,14 @@ fn line_of(alloc: Global, error: &str, middle: &str) -> Result<String, AllocErro
     }
 }
 
+/// Whether a fault of no command is told at a column of line 1.
+fn has_column(printed: &[u8]) -> bool {
+    match printed.strip_prefix(b"file for no command\nFILE:1:".as_slice()) {
+        Some(rest) => rest.first().is_some_and(|byte| byte.is_ascii_digit()),
+        None => false,
+    }
+}
+
 impl Line {
     /// The error of a command.
     fn error(&self, command: &str) -> &'static str {
@@ -248,8 +256,7 @@ impl Line {
     fn is_told(&self, alloc: Global, unit: &str, printed: &[u8]) -> Result<bool, AllocError> {
         match self.check {
             Told::NotToml => Ok(
-                printed.starts_with(b"file for no command\nFILE:1:".as_slice())
-                    && printed.ends_with(b"\n1 fault\n".as_slice()),
+                has_column(printed) && printed.ends_with(b"\n1 fault\n".as_slice()),
             ),
             Told::Text(text) => {
                 let text = match text.split_once('@') {
