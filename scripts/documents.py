@@ -409,7 +409,7 @@ def check_definitions():
     told = ", ".join(f"{title} {count}" for title, count in lines.items())
     yield f"{told}, of {definitions} definitions ({more} with the parts `asids`, `spaces` and `frames`)" in text, "DEFINITIONS: other counts"
     groups = [("pte", "walk"), ("tlb", "shoot"), ("spaces",), ("history",), ("stepcore",)]
-    wanted = [sum(crates[crate] for crate in group) for group in groups]
+    wanted = [sum(crates.get(crate, 0) for crate in group) for group in groups]
     found = re.search(r"\. (\d+) are the manual's: .* (\d+) say what .* (\d+) say where .* (\d+) are the rules .* The last (\d+) say ", text)
     yield found is not None and [int(it) for it in found.groups()] == wanted and sum(wanted) == all_lines, f"DEFINITIONS: not {wanted}"
 

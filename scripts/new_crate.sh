@@ -4,9 +4,12 @@
 #     scripts/new_crate.sh NAME
 #
 # Adds the line `NAME: melissaledge` to crates.txt, makes crates/NAME with the program and its test, and runs the test unproved, with
-# `rt`, in a minute or two. NAME is lowercase letters, digits and _. Nothing is made if there is such a crate.
+# `rt`, in a minute or two. NAME is lowercase letters, digits and _. Nothing is made if there is such a crate, here or in the toolchain,
+# and nothing stays if the test fails.
 set -eu
 unset CDPATH
+LC_ALL=C
+export LC_ALL
 trouble() {
     echo "new_crate.sh: $1" >&2
     exit 2
@@ -20,7 +23,12 @@ cd "$(dirname "$0")/.."
 if [ -e "crates/$name" ] || grep -q "^$name[: ]" crates.txt; then
     trouble "$name: there is such a crate"
 fi
+if ! page=$(rt doc); then trouble 'no toolchain: rt is not found'; fi
+if [ -e "${page%/*}/rlibs/$name.rlib" ] || [ "$name" = core ] || [ "$name" = std ]; then trouble "$name: the toolchain has such a crate"; fi
 first=crates/thread_tests/src/first_shootdown.rt
+cp crates.txt crates.txt.before
+trap 'rm -rf "crates/$name" && mv crates.txt.before crates.txt' EXIT
+trap 'exit 130' HUP INT TERM
 mkdir -p "crates/$name/src"
 cat >"crates/$name/src/lib.rt" <<'LIB'
 //! What the crate is for.
@@ -30,8 +38,9 @@ cat >"crates/$name/src/lib.rt" <<'LIB'
 mod first_shootdown;
 LIB
 sed -E '/^use std::/!s/^use [a-z_]+::/use melissaledge::/' "$first" >"crates/$name/src/first_shootdown.rt"
-printf '\n# your own\n%s: melissaledge\n' "$name" >>crates.txt
-cd "crates/$name"
-rt fmt
-rt try --test
+grep -q '^# your own$' crates.txt || printf '\n# your own\n' >>crates.txt
+echo "$name: melissaledge" >>crates.txt
+(cd "crates/$name" && rt fmt && rt try --test)
+trap - EXIT
+rm crates.txt.before
 echo "crates/$name runs, unproved. To prove it: cd crates/$name && rt test"

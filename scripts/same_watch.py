@@ -34,7 +34,7 @@ def main(svsim, svsim_watch):
         if got != wanted:
             print(f"FAILED {text[:200]!r}: {got}, not {wanted}")
     print(f"{passed} passed, {failed} failed")
-    return failed > 0
+    return failed > 0 or passed == 0
 
 
 if __name__ == "__main__":

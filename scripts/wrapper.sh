@@ -206,6 +206,14 @@ cp "$own/file.toml" "$own/a <b> & c.toml"
 judge 'the name in a line of check' "$own/a <b> & c.toml:3:5: a fault" "$("$svsim" check "$own/a <b> & c.toml" 2>/dev/null | head -n 1)"
 judge 'the name in a picture' "<text class='subtitle'>a &lt;b&gt; &amp; c.toml: a run of 1 hart</text>" \
     "$("$svsim" draw "$own/a <b> & c.toml" 2>/dev/null | sed -n 2p)"
+hidden=$(printf 'a\t\342\200\256b\302\205\303\251.toml')
+cp "$own/file.toml" "$own/$hidden"
+judge 'a name with letters that hide' "$own/$(printf 'a??b?\303\251.toml'):3:5: a fault" "$("$svsim" check "$own/$hidden" 2>/dev/null | head -n 1)"
+judge 'such a name in a picture' "<text class='subtitle'>a ?b??.toml: a run of 1 hart</text>" "$("$svsim" draw "$own/$hidden" 2>/dev/null | sed -n 2p)"
+long=$(printf 'x%.0s' $(seq 70))
+cp "$own/file.toml" "$own/$long"
+judge 'a long name in a picture' "<text class='subtitle'>$(printf 'x%.0s' $(seq 60))..: a run of 1 hart</text>" \
+    "$("$svsim" draw "$own/$long" 2>/dev/null | sed -n 2p)"
 judge 'another name of the same text' "$own/file.toml:3:5: a fault" "$("$svsim" check "$own/file.toml" 2>/dev/null | head -n 1)"
 judge 'no other command' 'case:3:5: a fault' "$(answer | head -n 1)"
 : >"$own/lines"
