@@ -11,6 +11,9 @@ const LENGTH: usize = 1_048_576;
 /// How many letters of a word `check` prints.
 const SHOWN: usize = 40;
 
+/// How many bytes the middle of a short file has.
+const SHORT: usize = 300;
+
 const COMMANDS: [&str; 7] = ["walk", "run", "live", "stale", "show", "draw", "check"];
 
 /// What `check` prints.
@@ -272,19 +275,21 @@ impl Line {
     }
 
     /// Whether a command prints what it prints of a short file: with an error nothing, and without
-    /// one what it prints of the head and the tail alone.
+    /// one what it prints where the unit is repeated in 300 bytes, more than a title shows.
     fn is_printed<T: Threads + Wait + Sync>(
         &self,
         alloc: Global,
         threads: &T,
         command: &str,
+        unit: &str,
         outcome: &Outcome,
     ) -> io::Result<bool> {
         if !self.error(command).is_empty() {
             return Ok(outcome.out.is_empty());
         }
         let words = format!(in alloc; "svsim {command} FILE")?;
-        let short = format!(in alloc; "{}{}", self.head, self.tail)?;
+        let middle = repeated(alloc, unit, SHORT)?;
+        let short = format!(in alloc; "{}{middle}{}", self.head, self.tail)?;
         let wanted = answer_on(alloc, threads, words.as_str(), short.as_str())?;
         Ok(outcome.out.as_slice() == wanted.out.as_slice())
     }
@@ -315,7 +320,7 @@ impl Line {
         if is_check {
             Ok(self.is_told(alloc, unit, outcome.out.as_slice())?)
         } else {
-            self.is_printed(alloc, threads, command, &outcome)
+            self.is_printed(alloc, threads, command, unit, &outcome)
         }
     }
 }
