@@ -4,3 +4,4 @@ pub mod Told
 pub mod Shown
 pub mod Meant
 pub mod Lines
+pub mod Notes

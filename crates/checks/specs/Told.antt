@@ -89,7 +89,8 @@ last_text n =
     else if nat_lt n most_told then decimal n ++ codes " faults\n"
     else decimal n ++ codes " faults are told, and there may be more\n"
 
--- the command, the lines that explain, and the last line
-abbrev pub whole_text : List ℕ → List (List ℕ) → List ℕ
-whole_text name lines =
-    codes "file for " ++ name ++ codes "\n" ++ lines_text lines ++ last_text (length lines)
+-- the command, a line for each fault, a line for each note, and the last line
+abbrev pub whole_text : List ℕ → List (List ℕ) → List (List ℕ) → List ℕ
+whole_text name faults notes =
+    codes "file for " ++ name ++ codes "\n" ++ lines_text faults ++ lines_text notes
+    ++ last_text (length faults)

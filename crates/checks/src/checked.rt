@@ -1,35 +1,41 @@
 //! The whole of a file: its command, each fault in a line, and the last line.
-ghost use Rattle.std.specs.Prelude.{◌≡◌, ◌≤◌, ◌↔◌, ◌+◌, None, Some, IfOk, OnOk, codes, false, length, map, min, option_map, string_bytes, vec_len};
+ghost use Rattle.std.specs.Prelude.{◌≡◌, ◌≤◌, ◌↔◌, ◌+◌, [], None, Some, Ok, IfOk, OnOk, codes, false, length, map, min, option_map, string_bytes, vec_len};
 ghost use Rattle.toml.specs.Parse.{parse_document};
 ghost use Rattle.toml.specs.View.{table_view};
 ghost use Rattle.files.specs.Faults.{failure_of, fault_in};
 ghost use Rattle.files.specs.declared.fault.Fault.TheVariants.{NotToml};
 ghost use Rattle.files.specs.KeyTable.{command_name};
 ghost use Rattle.files.specs.LiveFile.{live_plan_of};
-ghost use Rattle.files.specs.RunFile.{run_plan_of};
+ghost use Rattle.files.specs.RunFile.{run_plan_of, run_view};
 ghost use Rattle.files.specs.WalkFile.{walk_plan_of};
 ghost use Rattle.checks.specs.Told.{IsStillTrue, command_of, fault_for, fault_in_members, fault_of, is_memory, most_told, name_by, whole_text};
 ghost use Rattle.checks.specs.Lines.{IsInOrder, told_line};
+ghost use Rattle.checks.specs.Notes.{noted_in, noted_in_members, noted_of_plan};
 ghost use Rattle.checks.specs.Shown.{shown_name};
 
 use crate::commands::command_of;
 use crate::keys_known::tell_unknown;
+use crate::notes::{notes_on, short_maps};
 use crate::positions::Position;
 use crate::printed::{Told, in_order, text_of};
 use crate::report::{Piece, Report, Spot};
 use crate::steps_told::{tell_live, tell_run, tell_walk};
 use crate::values::Document;
-use files::{Command, Fault, live_scenario_in, run_scenario_in, walk_scenario_in};
+use files::{Command, Fault, RunScenario, live_scenario_in, run_scenario_in, walk_scenario_in};
+use lines::run_replies;
 use std::alloc::{AllocError, Global};
 use toml::Table;
 
 /// What a check of a file found.
 #[derive(Drop)]
 pub struct Checked {
-    /// The faults that are reported, in the order of lines and columns. A fault without a line comes
-    /// after those with one, and faults of one place come as they are found.
+    /// The faults that are reported, in the order of lines and columns. A fault without a line
+    /// comes after those with one, and faults of one place come as they are found.
     pub told: Vec<Told>,
-    /// What is printed: the command, a line for each of them, and `ok` or their number.
+    /// A note for each map of a scenario of `run` that stops before its leaf, in the order of lines
+    /// and columns, of the first 200; none where there is a fault.
+    pub notes: Vec<Told>,
+    /// What is printed: the command, a line for each of both, and `ok` or the number of faults.
     pub text: String,
     /// What the command answers for the file: the first fault in the order of checking.
     pub fault: Option<Fault>,
@@ -61,6 +67,26 @@ fn told(fault: Fault) -> Result<Option<Fault>, AllocError>
     Ok(Some(fault))
 }
 
+/// What a command finds in a document.
+#[derive(Drop)]
+struct Found {
+    fault: Option<Fault>,
+    /// The indices of the steps that have a note.
+    noted: Vec<usize>,
+    ghost few: { vec_len noted ≤ most_told },
+}
+
+impl Found {
+    /// This fault, or none, and no note.
+    fn fault(alloc: Global, fault: Option<Fault>) -> Found
+        ensures fault { result.fault ≡ fault }
+        ensures noted { result.noted.items ≡ [] }
+    {
+        let noted = Vec::new(alloc);
+        Found { fault, noted }
+    }
+}
+
 #[tactic(auto, using(crate::proofs::FaultLemmas::failing))]
 fn walk_fault(alloc: Global, table: &Table) -> Result<Option<Fault>, AllocError>
     ensures { IfOk result (λ fault. option_map failure_of fault ≡ option_map Some
@@ -72,14 +98,31 @@ fn walk_fault(alloc: Global, table: &Table) -> Result<Option<Fault>, AllocError>
     }
 }
 
+/// The indices of the steps of a scenario that have a note.
+fn noted(alloc: Global, scenario: &RunScenario) -> Result<Vec<usize>, AllocError>
+    ensures noted { IfOk result (λ noted. noted.items
+        ≡ noted_of_plan (Ok (run_view scenario.now))) }
+    ensures few { IfOk result (λ noted. vec_len noted ≤ most_told) }
+{
+    match run_replies(alloc, scenario) {
+        Ok(replies) => short_maps(alloc, scenario.events.as_slice(), replies.as_slice()),
+        Err(_no_memory) => Err(AllocError),
+    }
+}
+
 #[tactic(auto, using(crate::proofs::FaultLemmas::failing))]
-fn run_fault(alloc: Global, table: &Table) -> Result<Option<Fault>, AllocError>
-    ensures { IfOk result (λ fault. option_map failure_of fault ≡ option_map Some
+fn found_in_run(alloc: Global, table: &Table) -> Result<Found, AllocError>
+    ensures fault { IfOk result (λ found. option_map failure_of found.fault ≡ option_map Some
         (fault_in (run_plan_of (table_view table.now)))) }
+    ensures noted { IfOk result (λ found. found.noted.items
+        ≡ noted_of_plan (run_plan_of (table_view table.now))) }
 {
     match run_scenario_in(alloc, table) {
-        Ok(_scenario) => Ok(None),
-        Err(fault) => told(fault),
+        Ok(scenario) => {
+            let noted = noted(alloc, &scenario)?;
+            Ok(Found { fault: None, noted })
+        }
+        Err(fault) => Ok(Found::fault(alloc, told(fault)?)),
     }
 }
 
@@ -94,19 +137,18 @@ fn live_fault(alloc: Global, table: &Table) -> Result<Option<Fault>, AllocError>
     }
 }
 
-/// The first fault of a document for a command. `AllocError`: there was not enough memory.
-fn fault_in_table(
-    alloc: Global,
-    command: Command,
-    table: &Table,
-) -> Result<Option<Fault>, AllocError>
-    ensures { IfOk result (λ fault. option_map failure_of fault ≡ option_map Some
+/// The first fault of a document for a command, and the steps that have a note. `AllocError`: there
+/// was not enough memory.
+fn found_in_table(alloc: Global, command: Command, table: &Table) -> Result<Found, AllocError>
+    ensures fault { IfOk result (λ found. option_map failure_of found.fault ≡ option_map Some
         (fault_in_members command (table_view table.now))) }
+    ensures noted { IfOk result (λ found. found.noted.items
+        ≡ noted_in_members command (table_view table.now)) }
 {
     match command {
-        Command::Walk => walk_fault(alloc, table),
-        Command::Run => run_fault(alloc, table),
-        Command::Live => live_fault(alloc, table),
+        Command::Walk => Ok(Found::fault(alloc, walk_fault(alloc, table)?)),
+        Command::Run => found_in_run(alloc, table),
+        Command::Live => Ok(Found::fault(alloc, live_fault(alloc, table)?)),
     }
 }
 
@@ -185,15 +227,32 @@ fn check_table(alloc: Global, file: &str, text: &str, table: &Table) -> Result<C
     ensures told { IfOk result (λ checked. (checked.fault ≡ None) ↔ (vec_len checked.told ≡ 0)) }
     ensures few { IfOk result (λ checked. vec_len checked.told ≤ most_told) }
     ensures in_order { IfOk result (λ checked. IsInOrder checked.told.items) }
+    ensures noted { IfOk result (λ checked. vec_len checked.notes
+        ≡ length (noted_in_members (command_of (table_view table.now)) (table_view table.now))) }
+    ensures notes_in_order { IfOk result (λ checked. IsInOrder checked.notes.items) }
     ensures text { IfOk result (λ checked. string_bytes checked.text ≡ whole_text
-        (command_name (command_of (table_view table.now))) (map (told_line (shown_name file.now)) checked.told.items)) }
+        (command_name (command_of (table_view table.now))) (map (told_line (shown_name file.now)) checked.told.items)
+        (map (told_line (shown_name file.now)) checked.notes.items)) }
 {
     let command = command_of(table);
-    let fault = fault_in_table(alloc, command, table)?;
+    let found = found_in_table(alloc, command, table)?;
     let document = Document { text, table };
-    let told = in_order(report_of(alloc, &document, command, &fault)?.told)?;
-    let text = text_of(alloc, command.name(), file, told.as_slice())?;
-    Ok(Checked { told, text, fault })
+    let told = in_order(report_of(alloc, &document, command, &found.fault)?.told)?;
+    let notes = in_order(notes_on(alloc, &document, found.noted.as_slice())?)?;
+    let text = text_of(
+        alloc,
+        command.name(),
+        file,
+        told.as_slice(),
+        notes.as_slice(),
+    )?;
+    let fault = found.fault;
+    Ok(Checked {
+        told,
+        notes,
+        text,
+        fault,
+    })
 }
 
 /// What is reported of a text that the reader of TOML refused.
@@ -207,20 +266,30 @@ fn not_toml(
     ensures told { IfOk result (λ checked. ¬ (vec_len checked.told ≡ 0)) }
     ensures few { IfOk result (λ checked. vec_len checked.told ≤ most_told) }
     ensures in_order { IfOk result (λ checked. IsInOrder checked.told.items) }
+    ensures noted { IfOk result (λ checked. vec_len checked.notes ≡ 0) }
+    ensures notes_in_order { IfOk result (λ checked. IsInOrder checked.notes.items) }
     ensures text { IfOk result (λ checked. string_bytes checked.text ≡ whole_text
-        (codes "no command") (map (told_line (shown_name file.now)) checked.told.items)) }
+        (codes "no command") (map (told_line (shown_name file.now)) checked.told.items)
+        (map (told_line (shown_name file.now)) checked.notes.items)) }
 {
     let mut report = Report::new(alloc);
     tell_error(&mut report, text, error)?;
     let told = in_order(report.told)?;
-    let text = text_of(alloc, "no command", file, told.as_slice())?;
+    let notes = Vec::new(alloc);
+    let text = text_of(alloc, "no command", file, told.as_slice(), notes.as_slice())?;
     let fault = Some(Fault::NotToml);
-    Ok(Checked { told, text, fault })
+    Ok(Checked {
+        told,
+        notes,
+        text,
+        fault,
+    })
 }
 
 /// Reads a file of any command, and explains each fault that is found in it, 200 at most. The keys
-/// decide which command it is (`command_of`), and `fault` is what that command answers. `file` is the
-/// file's name in the lines.
+/// decide which command it is (`command_of`), and `fault` is what that command answers. The steps
+/// of a file for `run` without a fault are made, and each map that stops before its leaf has a note.
+/// `file` is the file's name in the lines.
 /// `AllocError`: there was not enough memory.
 pub fn check_text(alloc: Global, file: &str, text: &str) -> Result<Checked, AllocError>
     ensures fault { IfOk result (λ checked. option_map failure_of checked.fault ≡ option_map Some
@@ -228,8 +297,11 @@ pub fn check_text(alloc: Global, file: &str, text: &str) -> Result<Checked, Allo
     ensures told { IfOk result (λ checked. (checked.fault ≡ None) ↔ (vec_len checked.told ≡ 0)) }
     ensures few { IfOk result (λ checked. vec_len checked.told ≤ most_told) }
     ensures in_order { IfOk result (λ checked. IsInOrder checked.told.items) }
+    ensures noted { IfOk result (λ checked. vec_len checked.notes ≡ length (noted_in text.now)) }
+    ensures notes_in_order { IfOk result (λ checked. IsInOrder checked.notes.items) }
     ensures text { IfOk result (λ checked. string_bytes checked.text ≡ whole_text
-        (name_by (parse_document text.now)) (map (told_line (shown_name file.now)) checked.told.items)) }
+        (name_by (parse_document text.now)) (map (told_line (shown_name file.now)) checked.told.items)
+        (map (told_line (shown_name file.now)) checked.notes.items)) }
 {
     match toml::table_from_str(alloc, text) {
         Ok(table) => check_table(alloc, file, text, &table),

@@ -1,5 +1,5 @@
-//! What is wrong with a file: the command that it is for, and a line for each fault that is found
-//! in it.
+//! What is wrong with a file: the command that it is for, a line for each fault that is found in
+//! it, and, where there is none, a line for each map that stops before its leaf.
 #![tactic(auto)]
 
 mod checked;
@@ -7,10 +7,11 @@ mod commands;
 mod fields;
 mod forms;
 mod keys_known;
-mod laws;
 mod layout;
 mod meant;
 mod near;
+mod near_laws;
+mod notes;
 mod places;
 mod positions;
 mod printed;
@@ -26,9 +27,9 @@ mod values;
 pub use checked::{Checked, check_text};
 pub use commands::command_of;
 pub use files::Command;
-pub use laws::{
+pub use near::{is_near, is_swap, nearest};
+pub use near_laws::{
     near_words_are_edited_ones, no_word_is_its_own_swap, worked_swaps, worked_words_meant,
 };
-pub use near::{is_near, is_swap, nearest};
 pub use places::{Mark, Place};
 pub use printed::Told;

@@ -150,7 +150,8 @@ fn long_after(quote: u8, read: u8, byte: u8) -> State {
     }
 }
 
-/// Whether a line begins with a key and `=`, or with the head of the key's table.
+/// Whether a line begins with a key and `=` or `.`, or with the head of a table whose name begins
+/// with the key.
 fn begins_with(line: &[u8], key: &str) -> bool
     ensures { result ≡ begins_with key.now line.now }
 {
@@ -262,8 +263,9 @@ pub fn column_after(column: usize, byte: u8) -> usize {
     }
 }
 
-/// The line that begins with a key or with the head of its table, and the texts of its value: the value itself, or
-/// those in the array, or in the arrays of the array. `None`: there is no such line.
+/// The line that begins with a key or with the head of its table, and the texts of its value: the
+/// value itself, or those in the array, or in the arrays of the array. `None`: there is no such
+/// line.
 #[derive(Drop)]
 pub struct Place {
     pub line: Option<usize>,

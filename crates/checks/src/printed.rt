@@ -105,14 +105,17 @@ pub fn text_of(
     command: &str,
     file: &str,
     told: &[Told],
+    notes: &[Told],
 ) -> Result<String, AllocError>
     ensures { IfOk result (λ text. string_bytes text ≡ whole_text command.now
-        (map (told_line (shown_name file.now)) told.now)) }
+        (map (told_line (shown_name file.now)) told.now)
+        (map (told_line (shown_name file.now)) notes.now)) }
 {
     let name = shown_name(alloc, file)?;
     let mut text = String::new(alloc);
     writeln!(text, "file for {command}")?;
     push_lines(&mut text, name.as_str(), told)?;
+    push_lines(&mut text, name.as_str(), notes)?;
     push_last(&mut text, told.len())?;
     Ok(text)
 }

@@ -4,8 +4,7 @@ ghost use Rattle.std.specs.Prelude.{◌≤◌};
 
 use crate::fields::{expected, is_right};
 use crate::forms::{Form, names};
-use crate::meant::word_meant;
-use crate::near::nearest;
+use crate::meant::{name_meant, word_meant};
 use crate::report::{Piece, Report, Spot};
 use crate::split::{text_of, word_at};
 use files::Command;
@@ -306,7 +305,8 @@ fn tell_no_step(report: &mut Report, spot: Spot<'_>, command: Command, name: &st
         return;
     }
     let is = Piece::Text(" is no step of ");
-    match nearest(name, names(command).as_slice()) {
+    let names = names(command);
+    match name_meant(name, names.as_slice(), names.as_slice()) {
         Some(meant) => {
             let (perhaps, meant) = (Piece::Text("; perhaps "), Piece::Text(meant));
             report.tell(spot, &[word, is, this, perhaps, meant]);

@@ -22,4 +22,5 @@ pub use answers::{size_word, walk_lines, why_word};
 pub use numbers::{push_decimal, push_hexadecimal};
 pub use printing::Text;
 pub use replies::{push_harts, push_page, push_reply, push_what, reply_lines};
+pub use runs::run_replies;
 pub use sheet::show_text;

@@ -21,12 +21,13 @@ pub enum Call {
     Show,
     Draw,
     Check,
+    CheckNotes,
     Watch,
 }
 
 impl Call {
     /// All of them, in the order of their lines.
-    pub const ALL: [Call; 13] = [
+    pub const ALL: [Call; 14] = [
         Call::MachineOpen,
         Call::MachineRun,
         Call::LockedCall,
@@ -39,6 +40,7 @@ impl Call {
         Call::Show,
         Call::Draw,
         Call::Check,
+        Call::CheckNotes,
         Call::Watch,
     ];
 
@@ -57,6 +59,7 @@ impl Call {
             Call::Show => "command Show",
             Call::Draw => "command Draw",
             Call::Check => "command Check",
+            Call::CheckNotes => "command Check with notes",
             Call::Watch => "watch_command",
         }
     }
@@ -76,6 +79,7 @@ impl Call {
             Call::Show => inspections::show(alloc),
             Call::Draw => inspections::draw(alloc),
             Call::Check => inspections::check(alloc),
+            Call::CheckNotes => inspections::notes(alloc),
             Call::Watch => notes::watch(alloc),
         }
     }

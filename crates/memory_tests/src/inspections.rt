@@ -16,6 +16,9 @@ steps = [
 /// The second step is none.
 const FAULTY: &str = "harts = 2\nsteps = [\"0 load\", \"1 laod\"]";
 
+/// The page of the first step has no leaf.
+const SHORT_MAP: &str = "steps = [\"0 map 0 4K:0x1000 0x100 rwuad\", \"0 load\"]";
+
 /// Room for all that is written, so that no writer asks for memory.
 pub const ROOM: usize = 65536;
 
@@ -101,4 +104,15 @@ pub fn check(alloc: Global) -> Verdict {
         line: "svsim: step 2: not a step\n",
     };
     inspect(alloc, Which::Check, FAULTY, usual)
+}
+
+/// What is noted of a file without a fault.
+pub fn notes(alloc: Global) -> Verdict {
+    let usual = Usual {
+        status: 0,
+        first: "file for run\na file:1:10: note: step 1: only a table was added: ",
+        last: "map the page again until the answer is `leaf`\nok\n",
+        line: "",
+    };
+    inspect(alloc, Which::Check, SHORT_MAP, usual)
 }

@@ -2,7 +2,6 @@ pub mod ItemLines
 pub mod LiveLemmas
 pub mod FileLemmas
 pub mod OutputLemmas
-pub mod RunLemmas
 pub mod AskLemmas
 pub mod TroubleLemmas
 pub mod WordLemmas

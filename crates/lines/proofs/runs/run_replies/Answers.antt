@@ -2,8 +2,8 @@ use Rattle.std.proofs.Common.{◌≡◌, [], length, refl}
 use Rattle.history.specs.Setup.{setup_of}
 use Rattle.history.specs.Due.{Lawful}
 use Rattle.stepcore.specs.Runs.{with_turns}
-use Rattle.scenario.proofs.RunLemmas.{replies_due}
-use Rattle.scenario.proofs.texts.replies.Goals as goal
+use Rattle.lines.proofs.RunLemmas.{replies_due}
+use Rattle.lines.proofs.runs.run_replies.Goals as goal
 
 pub returns-clause-due : goal.returns-clause-due
 returns-clause-due c =
