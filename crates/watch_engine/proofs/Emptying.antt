@@ -12,7 +12,7 @@ use Rattle.watch_engine.specs.Chains.{last_place}
 use Rattle.watch_engine.specs.Keys.{key_of}
 use Rattle.watch_engine.specs.Slots.{IsWithout, has, items_of, key_in, turned}
 use Rattle.watch_engine.proofs.LastPlaces.{last_passes, last_within}
-use Rattle.watch_engine.proofs.Lists.{KeepsKey, filter_same, map_same}
+use Rattle.watch_engine.proofs.Lists.{KeepsKey, filter_same, map_same, state_keeps}
 use Rattle.watch_engine.proofs.Staying.{key_stays}
 use Rattle.watch_engine.proofs.Walks.{and_no, below, here, keyed, or_parts}
 
@@ -92,7 +92,7 @@ pub one_stays : (by : By) (keys : List ℕ) (slots : List Slot) (place : ℕ) (o
 one_stays by keys slots place old new were is = were ∙ sym (map-set_same (key_in by) slots place new old is)
 
 pub same_keeps : KeepsKey (λ (i : Held). i)
-same_keeps = record { hart = λ i. refl; root = λ i. refl; entry = λ i. refl; last = λ i. refl }
+same_keeps = state_keeps (λ i. i.state)
 
 -- the item of one place goes if the test passes it
 abbrev pub gone_at : (Held → Bool) → Slot → Slot

@@ -26,7 +26,8 @@ use Rattle.watch_engine.specs.declared.left.Left.{Left}
 use Rattle.watch_engine.specs.declared.left.PastFence.{PastFence}
 use Rattle.watch_engine.specs.declared.open.OpenClaim.{OpenClaim}
 use Rattle.watch_engine.specs.declared.open.OpenFence.{OpenFence}
-use Rattle.watch_engine.specs.Held.{is_current_by, is_exposed_by, marked_if, remembered_all, settled, settled_unless_stale, since_after, stays as root_stays, translation_of, without_frames}
+use Rattle.watch_engine.specs.Held.{is_current_by, is_exposed_by, marked_if, remembered_all, settled_unless_stale, stale_since, stays as root_stays, translation_of, with_state, without_frames}
+use Rattle.watch_engine.specs.State.{given_all, rechecked, since_of}
 use Rattle.watch_engine.specs.Left.{IsLeftAt, has_its_root}
 use Rattle.watch_engine.specs.Seen.{AreSeen, PassesAny}
 use Rattle.watch_engine.specs.Follows.{AreHeld, IsKnown}
@@ -35,13 +36,14 @@ use Rattle.watch_tables.specs.Through.{Passes}
 use Rattle.watch_tables.specs.Words.{AreFilled}
 use Rattle.watch_engine.proofs.Changes.{PassesIn, Stays, filled, stays_or_passes}
 use Rattle.watch_engine.proofs.Leaving.{any_weaker, each_kept, filter_each, filter_in, filter_out}
-use Rattle.watch_engine.proofs.Lists.{KeepsKey, filter_same}
+use Rattle.watch_engine.proofs.Lists.{KeepsKey, filter_same, state_keeps}
 use Rattle.watch_engine.proofs.MemoryChanges.{IsChange, changed_ages, changed_are}
 use Rattle.watch_engine.proofs.Moments.{held_stale, stale_some}
-use Rattle.watch_engine.proofs.Records.{all_pass, mark_reuse, marked_keeps, quiet, reused_after, reused_by, settled_keeps}
+use Rattle.watch_engine.proofs.Rechecks.{given_since, unless_stale}
+use Rattle.watch_engine.proofs.Records.{all_pass, marked_known, quiet_given, reused_by}
 use Rattle.watch_engine.proofs.SpaceRoots.{all_stay, current_same, roots_current, roots_left}
 use Rattle.watch_engine.proofs.Standings.{more_records}
-use Rattle.watch_engine.proofs.Steps.{After}
+use Rattle.watch_engine.proofs.Steps.{After, given_at}
 
 passes-at : (scheme : Scheme) (words : Tables) (root : ℕ) (e : Entry) (address : ℕ) → Passes scheme words root (page_number address) (index_of address) e.page → (addresses : List ℕ) (k : ℕ) → k < length addresses → get_or addresses k address ≡ address
     → PassesAny scheme words root addresses e
@@ -58,26 +60,6 @@ not-other (Some (suc n)) f = absurd (f (λ e. cc))
 twice : (f g : Held → Held) (held : List Held) → map f (map g held) ≡ map (λ i. f (g i)) held
 twice f g [] = refl
 twice f g (i ∷ held) = ap (λ is. f (g i) ∷ is) (twice f g held)
-
--- what is stale stays so
-some-same : (n : ℕ) (o : Option ℕ) → is_some o ≡ true → since_after true n o ≡ o
-some-same n None h = cc
-some-same n (Some s) h = refl
-
-stale-stays : (n : ℕ) (i : Held) → is_some i.stale_since ≡ true → settled false n i ≡ i
-stale-stays n i h = λ j. record i { stale_since = some-same n i.stale_since h j }
-
-mark-since : (b : Bool) (i : Held) → (marked_if Reuse (λ _. b) i).stale_since ≡ i.stale_since
-mark-since b i = elim b as (λ b. (marked_if Reuse (λ _. b) i).stale_since ≡ i.stale_since) [ true ↦ refl | false ↦ refl ]
-
-pub unless_keeps : (is : Held → Bool) (n : ℕ) → KeepsKey (λ i. settled_unless_stale (is i) n i)
-unless_keeps is n =
-    let k = settled_keeps is n in
-    let h : (t : Bool) (i : Held) → (cond t i (settled (is i) n i)).hart ≡ i.hart = λ t i. elim t as (λ t. (cond t i (settled (is i) n i)).hart ≡ i.hart) [ true ↦ refl | false ↦ k.hart i ] in
-    let r : (t : Bool) (i : Held) → (cond t i (settled (is i) n i)).root ≡ i.root = λ t i. elim t as (λ t. (cond t i (settled (is i) n i)).root ≡ i.root) [ true ↦ refl | false ↦ k.root i ] in
-    let e : (t : Bool) (i : Held) → (cond t i (settled (is i) n i)).entry ≡ i.entry = λ t i. elim t as (λ t. (cond t i (settled (is i) n i)).entry ≡ i.entry) [ true ↦ refl | false ↦ k.entry i ] in
-    let l : (t : Bool) (i : Held) → (cond t i (settled (is i) n i)).last_live ≡ i.last_live = λ t i. elim t as (λ t. (cond t i (settled (is i) n i)).last_live ≡ i.last_live) [ true ↦ refl | false ↦ k.last i ] in
-    record { hart = λ i. h (is_some i.stale_since) i; root = λ i. r (is_some i.stale_since) i; entry = λ i. e (is_some i.stale_since) i; last = λ i. l (is_some i.stale_since) i }
 
 -- where all roots stay, so do all spaces that were left
 pub all_rooted : {scheme : Scheme} {trace : Trace} {words : Tables} {since : ℕ → ℕ → ℕ} {satps : List (Option Space)} {roots : List ℕ} {held : List Held} {left : List Left} {drops : List PastFence} {fences : List OpenFence} {claims : List OpenClaim} {count : ℕ}
@@ -147,9 +129,6 @@ module _ {scheme : Scheme} {trace : Trace} {words : Tables} {since : ℕ → ℕ
   abbrev mark : Held → Held
   mark = marked_if Reuse (is_exposed_by frames)
 
-  mark-keeps : KeepsKey mark
-  mark-keeps = marked_keeps Reuse (is_exposed_by frames)
-
   tests : (x : Translation) → is_current_by (is_mapped scheme new) these x ≡ is_current scheme (newest ∷ trace) x
   tests x = ap (λ w. is_current_by (is_mapped scheme w) these x) memory ∙ roots_current scheme (newest ∷ trace) these spaces x
 
@@ -184,7 +163,7 @@ module _ {scheme : Scheme} {trace : Trace} {words : Tables} {since : ℕ → ℕ
             (before c.root x (subst (λ w. IsMapped scheme w (record x { root = c.root })) (sym memory) c.mapped));
       })
 
-  stale-still : (i : Held) → IsKnown scheme trace i → is_some i.stale_since ≡ true → is_current scheme (newest ∷ trace) (translation_of i) ≡ false
+  stale-still : (i : Held) → IsKnown scheme trace i → is_some (stale_since i) ≡ true → is_current scheme (newest ∷ trace) (translation_of i) ≡ false
   stale-still i known some =
       let x : Translation = translation_of i in
       let stale : is_stale scheme trace i.hart x ≡ true = sym (stale_some scheme trace i.hart x) ∙ (ap is_some (sym known.since) ∙ some) in
@@ -209,32 +188,17 @@ module _ {scheme : Scheme} {trace : Trace} {words : Tables} {since : ℕ → ℕ
   }
 
   -- all are settled
-  settled-keys : KeepsKey (λ i. settle (mark i))
-  settled-keys =
-      let s : KeepsKey settle = unless_keeps (λ i. is_current_by (is_mapped scheme new) these (translation_of i)) (count + 1) in
-      let k = mark-keeps in
-      record { hart = λ i. s.hart (mark i) ∙ k.hart i; root = λ i. s.root (mark i) ∙ k.root i; entry = λ i. s.entry (mark i) ∙ k.entry i; last = λ i. s.last (mark i) ∙ k.last i }
+  mark-state : (i : Held) → IsKnown scheme trace i → (mark i).state ≡ given_all (given_at scheme newest trace i.hart (translation_of i)) i.state
+  mark-state i known = ap (λ (m : Held). m.state) (marked_known scheme trace Reuse (is_exposed_by frames) (has_verdict scheme Reuse newest trace i.hart (translation_of i)) i (reused_by scheme trace by frames i known))
 
   settled-after-out : (i : Held) → IsKnown scheme trace i → settle (mark i) ≡ After scheme newest trace i
   settled-after-out i known =
       let n : count + 1 ≡ length (newest ∷ trace) = more_records at newest in
-      let k = mark-keeps in
-      let same : translation_of (mark i) ≡ translation_of i = (λ j. record { root = k.root i j; entry = k.entry i j }) in
-      let m : Held = mark i in
-      let done : settled (is_current_by (is_mapped scheme new) these (translation_of m)) (count + 1) m ≡ After scheme newest trace i =
-      (λ j. settled (is_current_by (is_mapped scheme new) these (same j)) (n j) m)
-      ∙ (ap (λ b. settled b (length (newest ∷ trace)) m) (tests (translation_of i))
-      ∙ reused_after scheme trace (is_current scheme (newest ∷ trace) (translation_of i)) (length (newest ∷ trace)) (is_exposed_by frames i) (has_verdict scheme Reuse newest trace i.hart (translation_of i)) i (reused_by scheme trace by frames i known)) in
-      let since : m.stale_since ≡ i.stale_since = mark-since (is_exposed_by frames i) i in
-      let go : (b : Bool) → is_some m.stale_since ≡ b → cond b m (settled (is_current_by (is_mapped scheme new) these (translation_of m)) (count + 1) m) ≡ After scheme newest trace i =
-      λ b. elim b as (λ b. is_some m.stale_since ≡ b → cond b m (settled (is_current_by (is_mapped scheme new) these (translation_of m)) (count + 1) m) ≡ After scheme newest trace i) [
-        | true ↦ λ some.
-            let none : is_current_by (is_mapped scheme new) these (translation_of m) ≡ false =
-            ap (is_current_by (is_mapped scheme new) these) same ∙ (tests (translation_of i) ∙ stale-still i known (ap is_some (sym since) ∙ some)) in
-            sym (ap (λ b. settled b (count + 1) m) none ∙ stale-stays (count + 1) m some) ∙ done
-        | false ↦ λ fresh. done
-      ] in
-      go (is_some m.stale_since) refl
+      let x : Translation = translation_of i in
+      let since : stale_since (mark i) ≡ stale_since i = ap since_of (mark-state i known) ∙ given_since (given_at scheme newest trace i.hart x) i.state in
+      ap (λ s. with_state s i)
+      (unless_stale (is_current_by (is_mapped scheme new) these x) (count + 1) (mark i).state (λ some. tests x ∙ stale-still i known (ap is_some (sym since) ∙ some))
+      ∙ (λ j. rechecked (tests x j) (n j) (mark-state i known j)))
 
   -- nothing has changed
   module _ (empty : addresses ≡ []) (all : list_all (root_stays frames satps) roots ≡ true) where
@@ -267,10 +231,9 @@ module _ {scheme : Scheme} {trace : Trace} {words : Tables} {since : ℕ → ℕ
 
     quiet-after-out : (i : Held) → IsKnown scheme trace i → mark i ≡ After scheme newest trace i
     quiet-after-out i known =
-        mark_reuse scheme trace (is_exposed_by frames i) false (has_verdict scheme Reuse newest trace i.hart (translation_of i)) false i (reused_by scheme trace by frames i known) refl refl
-        ∙ quiet scheme trace newest i (same-current (translation_of i)) known
+        ap (λ s. with_state s i) (mark-state i known) ∙ quiet_given scheme trace newest i (same-current (translation_of i)) known
 
   pub frames_stand : (changed : Bool) → (changed ≡ false → (addresses ≡ []) × (list_all (root_stays frames satps) roots ≡ true)) → (seen : List LastLive) → AreSeen scheme words since satps left drops count Goes seen → (now : List Held)
       → now ≡ cond changed (map settle (map mark (remembered_all seen held))) (map mark (remembered_all seen held)) → Stands scheme (newest ∷ trace) new ages satps these now kept drops fences claims (count + 1)
-  frames_stand true same seen all now is = out_stands seen all (λ i. settle (mark i)) settled-keys settled-after-out now (is ∙ twice settle mark (remembered_all seen held))
-  frames_stand false same seen all now is = let s = same refl in out_stands seen all mark mark-keeps (quiet-after-out s.0 s.1) now is
+  frames_stand true same seen all now is = out_stands seen all (λ i. settle (mark i)) (state_keeps (λ i. (settle (mark i)).state)) settled-after-out now (is ∙ twice settle mark (remembered_all seen held))
+  frames_stand false same seen all now is = let s = same refl in out_stands seen all mark (state_keeps (λ i. (mark i).state)) (quiet-after-out s.0 s.1) now is

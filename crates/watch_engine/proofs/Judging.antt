@@ -28,14 +28,16 @@ use Rattle.watch_engine.specs.declared.held.Held.{Held}
 use Rattle.watch_engine.specs.declared.open.OpenClaim.{OpenClaim}
 use Rattle.watch_engine.specs.declared.warning.Warning.{Warning}
 use Rattle.watch.specs.Computed.{is_same}
-use Rattle.watch_engine.specs.Held.{Each, IsNormalized, is_of, is_served_in, knows, normalized, own, since_after, translation_of}
+use Rattle.watch_engine.specs.Held.{Each, IsNormalized, is_given, is_of, is_served_in, knows, normalized, own, since_after, stale_since, translation_of}
 use Rattle.watch_engine.specs.Causes.{is_given_by, verdict_of}
 use Rattle.watch_engine.specs.Open.{IsOpenClaim}
 use Rattle.watch_engine.specs.Follows.{AreHeld, IsKnown, last_live_of, stale_since_of}
 use Rattle.watch_engine.specs.Warnings.{AreApart, AreWarnings, IsDue, IsStaleFrom, Shows, StaleFrom, has_same_rights, is_line, is_same_page, is_same_scope, is_shown, joined, shown_of, warning_of, with_warning}
 use Rattle.watch_engine.proofs.Lists.{bool_same, of_same, same_bool, same_size}
 use Rattle.watch_engine.proofs.Moments.{since_range, stale_some}
-use Rattle.watch_engine.proofs.Records.{claimed_by, freed_by, known_some, reused_by}
+use Rattle.watch_engine.proofs.Rechecks.{never_used}
+use Rattle.watch_engine.proofs.Records.{claimed_by, freed_by, reused_by}
+use Rattle.watch_engine.proofs.Steps.{known_some}
 use Rattle.watch_engine.proofs.Remembering.{fine_of}
 
 -- what one warning shows
@@ -136,9 +138,9 @@ stale-first scheme (newest ∷ trace) hart x n m e (stale, inr before) =
     let is : n ≡ some.0 = cc in
     stale-first scheme trace hart x n m (some.1 ∙ ap Some (sym is)) before
 
-pub known_since : (scheme : Scheme) (trace : Trace) (i : Held) → IsKnown scheme trace i → is_stale scheme trace i.hart (translation_of i) ≡ true → IsStaleFrom scheme (unwrap_or i.stale_since 0) trace i.hart (translation_of i)
+pub known_since : (scheme : Scheme) (trace : Trace) (i : Held) → IsKnown scheme trace i → is_stale scheme trace i.hart (translation_of i) ≡ true → IsStaleFrom scheme (unwrap_or (stale_since i) 0) trace i.hart (translation_of i)
 known_since scheme trace i known stale =
-    let some = some-of i.stale_since (known_some scheme trace i known ∙ stale) in
+    let some = some-of (stale_since i) (known_some scheme trace i known ∙ stale) in
     let is : stale_since_of scheme trace i.hart (translation_of i) ≡ Some some.0 = sym known.since ∙ some.1 in
     subst (λ (o : Option ℕ). IsStaleFrom scheme (unwrap_or o 0) trace i.hart (translation_of i)) (sym some.1)
     (record { since = stale-from scheme trace i.hart (translation_of i) some.0 is; first = λ m s. stale-first scheme trace i.hart (translation_of i) some.0 m is s })
@@ -382,19 +384,19 @@ only-used scheme by address trace Used hart x g = refl
 
 pub back_causes : (scheme : Scheme) (by : ℕ) (frames : Frames) (trace : Trace) → Causes scheme (GiveBack by frames) trace (Back frames)
 back_causes scheme by frames trace = record {
-  due = λ i known. by_test _ _ _ (and_due scheme Free (GiveBack by frames) trace i.hart (translation_of i)) (λ j. freed_by scheme trace by frames i known j && not (known.freed j));
+  due = λ i known. by_test _ _ _ (and_due scheme Free (GiveBack by frames) trace i.hart (translation_of i)) (λ j. freed_by scheme trace by frames i known j && not (known.given Free refl j));
   only = only-free scheme by frames trace;
 }
 
 pub out_causes : (scheme : Scheme) (by : ℕ) (frames : Frames) (trace : Trace) → Causes scheme (GiveOut by frames) trace (Out frames)
 out_causes scheme by frames trace = record {
-  due = λ i known. by_test _ _ _ (and_due scheme Reuse (GiveOut by frames) trace i.hart (translation_of i)) (λ j. reused_by scheme trace by frames i known j && not (known.reused j));
+  due = λ i known. by_test _ _ _ (and_due scheme Reuse (GiveOut by frames) trace i.hart (translation_of i)) (λ j. reused_by scheme trace by frames i known j && not (known.given Reuse refl j));
   only = only-reuse scheme by frames trace;
 }
 
 pub claim_causes : (scheme : Scheme) (by token : ℕ) (trace : Trace) (found : Option OpenClaim) → IsOpenClaim trace token found → Causes scheme (ClaimEnd by token) trace (Claim found)
 claim_causes scheme by token trace found begun = record {
-  due = λ i known. by_test _ _ _ (and_due scheme Claimed (ClaimEnd by token) trace i.hart (translation_of i)) (λ j. claimed_by scheme trace by token found i begun known j && not (known.claimed j));
+  due = λ i known. by_test _ _ _ (and_due scheme Claimed (ClaimEnd by token) trace i.hart (translation_of i)) (λ j. claimed_by scheme trace by token found i begun known j && not (known.given Claimed refl j));
   only = only-claimed scheme by token trace;
 }
 
@@ -413,20 +415,20 @@ use_causes scheme by address trace space satp = record {
         (λ d.
             let g = d.given in
             let here : satp_of trace i.hart ≡ space = subst (λ h. satp_of trace h ≡ space) g.0 satp in
-            let marks : (i.freed || i.claimed) ≡ true = elim (had.0 g.1) [
-              | inl f ↦ or_left _ _ (known.freed ∙ (has_held_iff scheme Free trace i.hart x).1 f)
-              | inr c ↦ or_right i.freed _ (known.claimed ∙ (has_held_iff scheme Claimed trace i.hart x).1 c)
+            let marks : (is_given Free i || is_given Claimed i) ≡ true = elim (had.0 g.1) [
+              | inl f ↦ or_left _ _ (known.given Free refl ∙ (has_held_iff scheme Free trace i.hart x).1 f)
+              | inr c ↦ or_right (is_given Free i) _ (known.given Claimed refl ∙ (has_held_iff scheme Claimed trace i.hart x).1 c)
             ] in
-            and_from _ _ (and_from _ _ (eq-eqb by i.hart g.0) (and_from _ _ marks (serves-in trace i.hart address i space here g.2))) refl),
+            and_from _ _ (and_from _ _ (eq-eqb by i.hart g.0) (and_from _ _ marks (serves-in trace i.hart address i space here g.2))) (ap not (never_used i.state))),
         (λ h.
-            let p = and_parts ((by == i.hart) && ((i.freed || i.claimed) && is_served_in space address i)) _ h in
+            let p = and_parts ((by == i.hart) && ((is_given Free i || is_given Claimed i) && is_served_in space address i)) _ h in
             let q = and_parts (by == i.hart) _ p.0 in
-            let r = and_parts (i.freed || i.claimed) (is_served_in space address i) q.1 in
+            let r = and_parts (is_given Free i || is_given Claimed i) (is_served_in space address i) q.1 in
             let same : by ≡ i.hart = eqb-true _ _ q.0 in
             let here : satp_of trace i.hart ≡ space = subst (λ h. satp_of trace h ≡ space) same satp in
-            let taken : TakenForGone scheme trace i.hart x = had.1 (elim (or_cases i.freed i.claimed r.0) [
-              | inl f ↦ inl ((has_held_iff scheme Free trace i.hart x).0 (sym known.freed ∙ f))
-              | inr c ↦ inr ((has_held_iff scheme Claimed trace i.hart x).0 (sym known.claimed ∙ c))
+            let taken : TakenForGone scheme trace i.hart x = had.1 (elim (or_cases (is_given Free i) (is_given Claimed i) r.0) [
+              | inl f ↦ inl ((has_held_iff scheme Free trace i.hart x).0 (sym (known.given Free refl) ∙ f))
+              | inr c ↦ inr ((has_held_iff scheme Claimed trace i.hart x).0 (sym (known.given Claimed refl) ∙ c))
             ]) in
             record { given = (same, taken, in-serves trace i.hart address i space here r.1); fresh = tt }),
       );

@@ -14,7 +14,8 @@ use Rattle.watch.specs.Holding.{reaches}
 use Rattle.watch_engine.specs.declared.held.Held.{Held}
 use Rattle.watch_engine.specs.declared.keys.By.TheVariants.{Frame, Page}
 use Rattle.watch_engine.specs.declared.keys.Keys.{Keys}
-use Rattle.watch_engine.specs.Held.{is_served_in, is_used_by, shares}
+use Rattle.watch.specs.declared.trace.Verdict.TheVariants.{Claimed, Free}
+use Rattle.watch_engine.specs.Held.{is_given, is_served_in, is_used_by, shares}
 use Rattle.watch_engine.specs.Keys.{IsAmong, frame_key, key_at, page_key}
 use Rattle.watch_engine.proofs.Lists.{within}
 
@@ -130,7 +131,7 @@ served_among (Some space) address i is = held_among address i.entry.page (and_pa
 
 pub used_among : (hart : ℕ) (space : Option Space) (address : ℕ) (i : Held) → is_used_by hart space address i ≡ true → IsAmong (pages_from (address / 4096) 1) (page_key i.entry.page)
 used_among hart space address i is =
-    served_among space address i (and_parts (i.freed || i.claimed) _ (and_parts (hart == i.hart) _ is).1).1
+    served_among space address i (and_parts (is_given Free i || is_given Claimed i) _ (and_parts (hart == i.hart) _ is).1).1
 
 pub same_some : (a b : Keys) → Some a ≡ Some b → a ≡ b
 same_some a b e = cc

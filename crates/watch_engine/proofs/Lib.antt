@@ -2,6 +2,7 @@ pub mod Lists
 pub mod LastPlaces
 pub mod ByKey
 pub mod Moments
+pub mod Rechecks
 pub mod Places
 pub mod Changes
 pub mod Opening

@@ -10,7 +10,8 @@ use Rattle.tlb.specs.declared.store.Entry.{Entry}
 use Rattle.watch.specs.Holding.{Translation}
 use Rattle.watch_engine.specs.declared.held.Held.{Held}
 use Rattle.watch.specs.Computed.{is_same}
-use Rattle.watch_engine.specs.Held.{Each, is_of, is_same_entry, knows, translation_of}
+use Rattle.watch_engine.specs.declared.state.State.{State}
+use Rattle.watch_engine.specs.Held.{Each, is_of, is_same_entry, knows, translation_of, with_state}
 
 -- equal by the test
 pub same_bool : (a b : Bool) → is_same a b ≡ true → a ≡ b
@@ -148,6 +149,10 @@ pub record KeepsKey (f : Held → Held) : Type 0 where
   pub root : (i : Held) → (f i).root ≡ i.root
   pub entry : (i : Held) → (f i).entry ≡ i.entry
   pub last : (i : Held) → (f i).last_live ≡ i.last_live
+
+-- what changes no more than the state
+pub state_keeps : (g : Held → State) → KeepsKey (λ i. with_state (g i) i)
+state_keeps g = record { hart = λ i. refl; root = λ i. refl; entry = λ i. refl; last = λ i. refl }
 
 pub key_translation : (f : Held → Held) → KeepsKey f → (i : Held) → translation_of (f i) ≡ translation_of i
 key_translation f k i = λ j. record { root = k.root i j; entry = k.entry i j }

@@ -6,37 +6,33 @@ use Rattle.std.proofs.lemmas.Bool.{not-false, true≢false}
 use Rattle.std.proofs.lemmas.List.{length-append}
 use Rattle.watch.specs.declared.trace.Frames.{Frames}
 use Rattle.watch.specs.declared.trace.Verdict.{Verdict}
-use Rattle.watch.specs.declared.trace.Verdict.TheVariants.{Free, Reuse, Claimed, Used}
+use Rattle.watch.specs.declared.trace.Verdict.TheVariants.{Reuse}
 use Rattle.watch_engine.specs.declared.cause.Cause.{Cause}
 use Rattle.watch_engine.specs.declared.cause.Cause.TheVariants.{Out}
 use Rattle.watch_engine.specs.declared.held.Held.{Held}
 use Rattle.watch_engine.specs.declared.held.LastLive.{LastLive}
 use Rattle.watch_engine.specs.declared.slot.Slot.{Slot}
 use Rattle.watch_engine.specs.declared.warning.Warning.{Warning}
-use Rattle.watch_engine.specs.Causes.{applies, is_given_by, is_marked, verdict_of}
-use Rattle.watch_engine.specs.Held.{Each, is_exposed_by, is_of, last_translation, marked, marked_if, remembered, remembered_all}
+use Rattle.watch_engine.specs.Causes.{applies, is_given_by, verdict_of}
+use Rattle.watch_engine.specs.Held.{Each, is_exposed_by, is_given, is_of, last_translation, marked_if, remembered, remembered_all, with_state}
+use Rattle.watch_engine.specs.State.{given_too}
 use Rattle.watch_engine.specs.Slots.{items_of}
 use Rattle.watch_engine.specs.Warnings.{is_shown, joined, warning_of, with_warning}
 use Rattle.watch_engine.proofs.Places.{touched}
+use Rattle.watch_engine.proofs.Rechecks.{given_again}
 
 -- it has the verdict already, or does not get it
 abbrev pub IsMarked : Verdict → (Held → Bool) → Held → Type 0
 IsMarked verdict test i = marked_if verdict test i ≡ i
 
-marked-same : (verdict : Verdict) (i : Held) → is_marked verdict i ≡ true → marked verdict i ≡ i
-marked-same Free i h = λ j. record i { freed = sym h j }
-marked-same Reuse i h = λ j. record i { reused = sym h j }
-marked-same Claimed i h = λ j. record i { claimed = sym h j }
-marked-same Used i h = refl
-
 not-given : (cause : Cause) (i : Held) → is_given_by cause i ≡ false → IsMarked (verdict_of cause) (applies cause) i
 not-given cause i h =
-    let go : (b : Bool) → applies cause i ≡ b → cond b (marked (verdict_of cause) i) i ≡ i =
-    λ b. elim b as (λ b. applies cause i ≡ b → cond b (marked (verdict_of cause) i) i ≡ i) [
-      | true ↦ λ t. marked-same (verdict_of cause) i (not-false (is_marked (verdict_of cause) i) (sym (ap (λ b. b && not (is_marked (verdict_of cause) i)) t) ∙ h))
+    let go : (b : Bool) → applies cause i ≡ b → cond b (given_too (verdict_of cause) i.state) i.state ≡ i.state =
+    λ b. elim b as (λ b. applies cause i ≡ b → cond b (given_too (verdict_of cause) i.state) i.state ≡ i.state) [
+      | true ↦ λ t. given_again (verdict_of cause) i.state (not-false (is_given (verdict_of cause) i) (sym (ap (λ b. b && not (is_given (verdict_of cause) i)) t) ∙ h))
       | false ↦ λ t. refl
     ] in
-    go (applies cause i) refl
+    ap (λ s. with_state s i) (go (applies cause i) refl)
 
 joined-none : (cause : Cause) (held : List Held) (w : List Warning) → joined cause held w ≡ [] → w ≡ []
 joined-none cause [] w h = h
@@ -78,10 +74,7 @@ module _ (frames : Frames) where
   IsOut = IsMarked Reuse (is_exposed_by frames)
 
   touched-marked : (s : LastLive) (i : Held) → IsOut i → IsOut (touched s i)
-  touched-marked s i h =
-      let go : (b : Bool) → cond b (marked Reuse (touched s i)) (touched s i) ≡ touched s (cond b (marked Reuse i) i) =
-      λ b. elim b as (λ b. cond b (marked Reuse (touched s i)) (touched s i) ≡ touched s (cond b (marked Reuse i) i)) [ true ↦ refl | false ↦ refl ] in
-      go (is_exposed_by frames i) ∙ ap (touched s) h
+  touched-marked s i h = ap (touched s) h
 
   remembered-marked : (s : LastLive) (held : List Held) → Each IsOut held → Each IsOut (remembered s held)
   remembered-marked s [] e = (refl, tt)
@@ -102,8 +95,8 @@ module _ (frames : Frames) where
 pub none_joined : (cause : Cause) (held : List Held) (w : List Warning) → list_any (applies cause) held ≡ false → joined cause held w ≡ w
 none_joined cause [] w none = refl
 none_joined cause (i ∷ held) w none =
-    let go : (b : Bool) → applies cause i ≡ b → joined cause held (cond ((b && not (is_marked (verdict_of cause) i)) && not (list_any (is_shown i) w)) (w ++ warning_of (verdict_of cause) i ∷ []) w) ≡ w =
-    λ b. elim b as (λ b. applies cause i ≡ b → joined cause held (cond ((b && not (is_marked (verdict_of cause) i)) && not (list_any (is_shown i) w)) (w ++ warning_of (verdict_of cause) i ∷ []) w) ≡ w) [
+    let go : (b : Bool) → applies cause i ≡ b → joined cause held (cond ((b && not (is_given (verdict_of cause) i)) && not (list_any (is_shown i) w)) (w ++ warning_of (verdict_of cause) i ∷ []) w) ≡ w =
+    λ b. elim b as (λ b. applies cause i ≡ b → joined cause held (cond ((b && not (is_given (verdict_of cause) i)) && not (list_any (is_shown i) w)) (w ++ warning_of (verdict_of cause) i ∷ []) w) ≡ w) [
       | true ↦ λ t. absurd (true≢false (sym (ap (λ (b : Bool). b || list_any (applies cause) held) t) ∙ none))
       | false ↦ λ t. none_joined cause held w (sym (ap (λ (b : Bool). b || list_any (applies cause) held) t) ∙ none)
     ] in

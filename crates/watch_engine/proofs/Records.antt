@@ -1,7 +1,7 @@
 -- What each kind of record leaves of what is known.
 use Rattle.std.proofs.Common.{◌≡◌, ℕ, ◌≤◌, ◌<◌, Bool, true, false, Option, Some, None, List, ◌∷◌, length, ap, sym, ◌∙◌, subst, refl, inl, inr, arith}
-use Rattle.std.specs.Prelude.{◌==◌, ◌&&◌, ◌||◌, not, nat_le, nat_lt, is_some, map, filter}
-use Rattle.std.proofs.lemmas.Bool.{and_parts, and_from, or_from, not-true, not-false, true≢false, false_from_ne_true, cases_lt, lt-leb}
+use Rattle.std.specs.Prelude.{◌==◌, ◌&&◌, not, nat_le, nat_lt, is_some, map, filter}
+use Rattle.std.proofs.lemmas.Bool.{and_parts, and_from, not-true, not-false, true≢false, false_from_ne_true, cases_lt, lt-leb}
 use Rattle.pte.specs.declared.scheme.Scheme.{Scheme}
 use Rattle.tlb.specs.Fence.{is_fenced}
 use Rattle.watch.specs.declared.trace.Claim.{Claim}
@@ -10,124 +10,44 @@ use Rattle.watch.specs.declared.trace.RemoteFence.{RemoteFence}
 use Rattle.watch.specs.declared.trace.Verdict.{Verdict}
 use Rattle.watch.specs.declared.trace.Record.{Record}
 use Rattle.watch.specs.declared.trace.Record.TheVariants.{Fence, RemoteBegin, RemoteEnd, GiveOut, GiveBack, ClaimBegin, ClaimEnd, Use}
-use Rattle.watch.specs.declared.trace.Verdict.TheVariants.{Free, Reuse, Claimed, Used}
+use Rattle.watch.specs.declared.trace.Verdict.TheVariants.{Free, Reuse, Claimed}
 use Rattle.watch.specs.Trace.{Trace}
 use Rattle.watch.specs.Holding.{Translation, is_covered, names}
 use Rattle.watch.specs.Verdicts.{is_claimed}
-use Rattle.watch.specs.ComputedTraces.{has_held, has_verdict, is_broken_of, is_current, is_dropped, is_dropped_by, is_live, is_live_since, is_stale}
-use Rattle.watch.proofs.ComputedTraces.{stale_iff, verdict_iff}
-use Rattle.watch.proofs.Judged.{verdict-stale}
+use Rattle.watch.specs.ComputedTraces.{has_verdict, is_broken_of, is_current, is_dropped, is_dropped_by, is_live, is_live_since, is_stale}
 use Rattle.watch_engine.specs.declared.held.Held.{Held}
 use Rattle.watch_engine.specs.declared.open.OpenClaim.{OpenClaim}
 use Rattle.watch_engine.specs.declared.open.OpenFence.{OpenFence}
-use Rattle.watch_engine.specs.Held.{is_claimed_by, is_exposed_by, is_taken_by, marked_if, outlives_fence, outlives_remote, settled, shares, since_after, translation_of}
+use Rattle.watch_engine.specs.Held.{is_by, is_claimed_by, is_exposed_by, is_taken_by, marked_if, outlives_fence, outlives_remote, shares, stale_since, translation_of, with_state}
+use Rattle.watch_engine.specs.State.{alone, given_all, none_given, rechecked}
 use Rattle.watch_engine.specs.Open.{IsOpenClaim, IsOpenFence, fence_begun}
 use Rattle.watch_engine.specs.Follows.{AreHeld, IsKnown, last_live_of}
-use Rattle.watch_engine.proofs.Lists.{KeepsKey, filter_same, from_at_most, from_within, map_same, within}
-use Rattle.watch_engine.proofs.Moments.{held_stale, had_stale, stale_some, stale_since-claim, live_since-begun}
-use Rattle.watch_engine.proofs.Remembering.{none_of}
-use Rattle.watch_engine.proofs.Steps.{After, advanced, held-on, step}
-
-some_kept : (n : ℕ) (o : Option ℕ) → is_some o ≡ true → since_after true n o ≡ o
-some_kept n None e = cc
-some_kept n (Some m) e = refl
-
-pub known_some : (scheme : Scheme) (trace : Trace) (i : Held) → IsKnown scheme trace i → is_some i.stale_since ≡ is_stale scheme trace i.hart (translation_of i)
-known_some scheme trace i known = ap is_some known.since ∙ stale_some scheme trace i.hart (translation_of i)
+use Rattle.watch_engine.proofs.Lists.{KeepsKey, filter_same, from_at_most, from_within, map_same, state_keeps, within}
+use Rattle.watch_engine.proofs.Moments.{held_stale, stale_since-claim, live_since-begun}
+use Rattle.watch_engine.proofs.Rechecks.{advanced, advanced_quiet, given_if, nothing_given}
+use Rattle.watch_engine.proofs.Steps.{After, given_at, held-on, known_some, step}
 
 -- nothing is changed
 abbrev pub same : Held → Held
 same i = i
 
 pub same_keeps : KeepsKey same
-same_keeps = record { hart = λ i. refl; root = λ i. refl; entry = λ i. refl; last = λ i. refl }
-
-pub settled_keeps : (is : Held → Bool) (n : ℕ) → KeepsKey (λ i. settled (is i) n i)
-settled_keeps is n =
-    let a : (b : Bool) (i : Held) → (settled b n i).hart ≡ i.hart = λ b i. elim b as (λ b. (settled b n i).hart ≡ i.hart) [ true ↦ refl | false ↦ refl ] in
-    let r : (b : Bool) (i : Held) → (settled b n i).root ≡ i.root = λ b i. elim b as (λ b. (settled b n i).root ≡ i.root) [ true ↦ refl | false ↦ refl ] in
-    let e : (b : Bool) (i : Held) → (settled b n i).entry ≡ i.entry = λ b i. elim b as (λ b. (settled b n i).entry ≡ i.entry) [ true ↦ refl | false ↦ refl ] in
-    let l : (b : Bool) (i : Held) → (settled b n i).last_live ≡ i.last_live = λ b i. elim b as (λ b. (settled b n i).last_live ≡ i.last_live) [ true ↦ refl | false ↦ refl ] in
-    record { hart = λ i. a (is i) i; root = λ i. r (is i) i; entry = λ i. e (is i) i; last = λ i. l (is i) i }
-
-marked_hart : (v : Verdict) (b : Bool) (i : Held) → (marked_if v (λ _. b) i).hart ≡ i.hart
-marked_hart Free true i = refl
-marked_hart Free false i = refl
-marked_hart Reuse true i = refl
-marked_hart Reuse false i = refl
-marked_hart Claimed true i = refl
-marked_hart Claimed false i = refl
-marked_hart Used true i = refl
-marked_hart Used false i = refl
-
-marked_root : (v : Verdict) (b : Bool) (i : Held) → (marked_if v (λ _. b) i).root ≡ i.root
-marked_root Free true i = refl
-marked_root Free false i = refl
-marked_root Reuse true i = refl
-marked_root Reuse false i = refl
-marked_root Claimed true i = refl
-marked_root Claimed false i = refl
-marked_root Used true i = refl
-marked_root Used false i = refl
-
-marked_entry : (v : Verdict) (b : Bool) (i : Held) → (marked_if v (λ _. b) i).entry ≡ i.entry
-marked_entry Free true i = refl
-marked_entry Free false i = refl
-marked_entry Reuse true i = refl
-marked_entry Reuse false i = refl
-marked_entry Claimed true i = refl
-marked_entry Claimed false i = refl
-marked_entry Used true i = refl
-marked_entry Used false i = refl
-
-marked_last : (v : Verdict) (b : Bool) (i : Held) → (marked_if v (λ _. b) i).last_live ≡ i.last_live
-marked_last Free true i = refl
-marked_last Free false i = refl
-marked_last Reuse true i = refl
-marked_last Reuse false i = refl
-marked_last Claimed true i = refl
-marked_last Claimed false i = refl
-marked_last Used true i = refl
-marked_last Used false i = refl
-
-pub marked_keeps : (v : Verdict) (test : Held → Bool) → KeepsKey (marked_if v test)
-marked_keeps v test = record { hart = λ i. marked_hart v (test i) i; root = λ i. marked_root v (test i) i; entry = λ i. marked_entry v (test i) i; last = λ i. marked_last v (test i) i }
+same_keeps = state_keeps (λ i. i.state)
 
 module _ (scheme : Scheme) (trace : Trace) where
-  -- what a record that stores no word leaves of what is known
-  verdict_stale : (v : Verdict) (newest : Record) (hart : ℕ) (x : Translation) → has_verdict scheme v newest trace hart x ≡ true → is_stale scheme trace hart x ≡ true
-  verdict_stale v newest hart x h = (stale_iff scheme trace hart x).1 (verdict-stale scheme v newest trace hart x ((verdict_iff scheme v newest trace hart x).0 h))
-
-  abbrev pub with_verdicts : Record → Held → Held
-  with_verdicts newest i =
-      record i {
-        freed = has_verdict scheme Free newest trace i.hart (translation_of i) || i.freed;
-        reused = has_verdict scheme Reuse newest trace i.hart (translation_of i) || i.reused;
-        claimed = has_verdict scheme Claimed newest trace i.hart (translation_of i) || i.claimed;
-      }
-
-  pub quiet : (newest : Record) → (i : Held) → is_current scheme (newest ∷ trace) (translation_of i) ≡ is_current scheme trace (translation_of i) → IsKnown scheme trace i → with_verdicts newest i ≡ After scheme newest trace i
-  quiet newest i unchanged known =
+  -- what a record leaves by which nothing becomes current, or stale
+  pub quiet_given : (newest : Record) → (i : Held) → is_current scheme (newest ∷ trace) (translation_of i) ≡ is_current scheme trace (translation_of i) → IsKnown scheme trace i
+      → with_state (given_all (given_at scheme newest trace i.hart (translation_of i)) i.state) i ≡ After scheme newest trace i
+  quiet_given newest i unchanged known =
       let x : Translation = translation_of i in
-      let n : ℕ = length (newest ∷ trace) in
-      let f : Bool = has_verdict scheme Free newest trace i.hart x in
-      let r : Bool = has_verdict scheme Reuse newest trace i.hart x in
-      let c : Bool = has_verdict scheme Claimed newest trace i.hart x in
-      let go : (m : Bool) → is_stale scheme trace i.hart x ≡ not m → with_verdicts newest i ≡ advanced m n f r c i =
-      λ m. elim m as (λ m. is_stale scheme trace i.hart x ≡ not m → with_verdicts newest i ≡ advanced m n f r c i) [
-        | true ↦ λ fine.
-            let none : i.stale_since ≡ None = none_of i.stale_since (known_some scheme trace i known ∙ fine) in
-            let no : (v : Verdict) → has_verdict scheme v newest trace i.hart x ≡ false = λ v. false_from_ne_true _ (λ t. true≢false (sym (verdict_stale v newest i.hart x t) ∙ fine)) in
-            let not_had : (v : Verdict) → has_held scheme v trace i.hart x ≡ false = λ v. false_from_ne_true _ (λ t. true≢false (sym (had_stale scheme v trace i.hart x t) ∙ fine)) in
-            let a : (f || i.freed) ≡ false = or_from _ _ (no Free) (known.freed ∙ not_had Free) in
-            let b : (r || i.reused) ≡ false = or_from _ _ (no Reuse) (known.reused ∙ not_had Reuse) in
-            let d : (c || i.claimed) ≡ false = or_from _ _ (no Claimed) (known.claimed ∙ not_had Claimed) in
-            λ j. record i { stale_since = none j; freed = a j; reused = b j; claimed = d j }
-        | false ↦ λ stale.
-            let some = some_kept n i.stale_since (known_some scheme trace i known ∙ stale) in
-            λ j. record i { stale_since = sym some j; freed = f || i.freed; reused = r || i.reused; claimed = c || i.claimed }
-      ] in
-      go (is_current scheme (newest ∷ trace) x) (held_stale scheme trace i.hart x known.held ∙ ap not (sym unchanged))
+      let stale : is_some (stale_since i) ≡ not (is_current scheme (newest ∷ trace) x) = known_some scheme trace i known ∙ (held_stale scheme trace i.hart x known.held ∙ ap not (sym unchanged)) in
+      ap (λ s. with_state s i) (sym (advanced_quiet (is_current scheme (newest ∷ trace) x) (length (newest ∷ trace)) (given_at scheme newest trace i.hart x) i.state stale))
+
+  -- and gives no verdict
+  pub quiet : (newest : Record) → (i : Held) → given_at scheme newest trace i.hart (translation_of i) ≡ none_given → is_current scheme (newest ∷ trace) (translation_of i) ≡ is_current scheme trace (translation_of i) → IsKnown scheme trace i
+      → i ≡ After scheme newest trace i
+  quiet newest i none unchanged known =
+      ap (λ s. with_state s i) (sym (nothing_given i.state) ∙ ap (λ g. given_all g i.state) (sym none)) ∙ quiet_given newest i unchanged known
 
   abbrev pub all_pass : Held → Bool
   all_pass i = true
@@ -157,19 +77,19 @@ module _ (scheme : Scheme) (trace : Trace) where
     remote_begins by token fence held are =
         let newest : Record = RemoteBegin by token fence in
         subst (AreHeld scheme (newest ∷ trace) IsLeft) (map_same held)
-        (plain newest same held same_keeps (record { live = λ h x. refl; current = λ x. refl; keeps = λ h x. refl }) (λ i known. quiet newest i refl known) are)
+        (plain newest same held same_keeps (record { live = λ h x. refl; current = λ x. refl; keeps = λ h x. refl }) (λ i known. quiet newest i refl refl known) are)
 
     pub claim_begins : (by token : ℕ) (claim : Claim) (held : List Held) → AreHeld scheme trace IsLeft held → AreHeld scheme (ClaimBegin by token claim ∷ trace) IsLeft held
     claim_begins by token claim held are =
         let newest : Record = ClaimBegin by token claim in
         subst (AreHeld scheme (newest ∷ trace) IsLeft) (map_same held)
-        (plain newest same held same_keeps (record { live = λ h x. refl; current = λ x. refl; keeps = λ h x. refl }) (λ i known. quiet newest i refl known) are)
+        (plain newest same held same_keeps (record { live = λ h x. refl; current = λ x. refl; keeps = λ h x. refl }) (λ i known. quiet newest i refl refl known) are)
 
     pub is_accessed : (by address : ℕ) (held : List Held) → AreHeld scheme trace IsLeft held → AreHeld scheme (Use by address ∷ trace) IsLeft held
     is_accessed by address held are =
         let newest : Record = Use by address in
         subst (AreHeld scheme (newest ∷ trace) IsLeft) (map_same held)
-        (plain newest same held same_keeps (record { live = λ h x. refl; current = λ x. refl; keeps = λ h x. refl }) (λ i known. quiet newest i refl known) are)
+        (plain newest same held same_keeps (record { live = λ h x. refl; current = λ x. refl; keeps = λ h x. refl }) (λ i known. quiet newest i refl refl known) are)
 
   -- verdicts by what is known
   exposed_by : (frames : Frames) (i : Held) → IsKnown scheme trace i → is_exposed_by frames i ≡ (shares frames i.entry && is_stale scheme trace i.hart (translation_of i))
@@ -189,33 +109,26 @@ module _ (scheme : Scheme) (trace : Trace) where
   pub claimed_by : (by token : ℕ) (found : Option OpenClaim) (i : Held) → IsOpenClaim trace token found → IsKnown scheme trace i → is_claimed_by found i ≡ has_verdict scheme Claimed (ClaimEnd by token) trace i.hart (translation_of i)
   claimed_by by token None i begun known = sym (ap (λ o. is_broken_of scheme o token trace i.hart (translation_of i)) begun)
   claimed_by by token (Some o) i begun known =
-      (λ j. is_claimed_by (Some (record o { begun = begun.1 j })) (record i { stale_since = known.since j }))
+      (λ j. is_claimed o.claim (translation_of i) && is_by (known.since j) (begun.1 j))
       ∙ (ap (λ b. is_claimed o.claim (translation_of i) && b) (sym (stale_since-claim scheme token trace i.hart (translation_of i)))
       ∙ sym (ap (λ o. is_broken_of scheme o token trace i.hart (translation_of i)) begun.0))
 
-  -- a mark for each verdict
-  mark_free : (t f r c : Bool) (i : Held) → t ≡ f → r ≡ false → c ≡ false → marked_if Free (λ _. t) i ≡ record i { freed = f || i.freed; reused = r || i.reused; claimed = c || i.claimed }
-  mark_free t f r c i e a b =
-      (elim t as (λ t. marked_if Free (λ _. t) i ≡ record i { freed = t || i.freed }) [ true ↦ refl | false ↦ refl ])
-      ∙ (λ j. record i { freed = e j || i.freed; reused = sym a j || i.reused; claimed = sym b j || i.claimed })
-
-  mark_claimed : (t f r c : Bool) (i : Held) → t ≡ c → f ≡ false → r ≡ false → marked_if Claimed (λ _. t) i ≡ record i { freed = f || i.freed; reused = r || i.reused; claimed = c || i.claimed }
-  mark_claimed t f r c i e a b =
-      (elim t as (λ t. marked_if Claimed (λ _. t) i ≡ record i { claimed = t || i.claimed }) [ true ↦ refl | false ↦ refl ])
-      ∙ (λ j. record i { freed = sym a j || i.freed; reused = sym b j || i.reused; claimed = e j || i.claimed })
+  -- what gets a verdict
+  pub marked_known : (v : Verdict) (test : Held → Bool) (b : Bool) (i : Held) → test i ≡ b → marked_if v test i ≡ with_state (given_all (alone v b) i.state) i
+  marked_known v test b i is = ap (λ s. with_state s i) (given_if v (test i) i.state ∙ ap (λ b. given_all (alone v b) i.state) is)
 
   module _ (IsLeft : ℕ → Translation → ℕ → Type 0) where
     pub frames_back : (by : ℕ) (frames : Frames) (held : List Held) → AreHeld scheme trace IsLeft held → AreHeld scheme (GiveBack by frames ∷ trace) IsLeft (map (marked_if Free (is_exposed_by frames)) held)
     frames_back by frames held are =
         let newest : Record = GiveBack by frames in
-        plain IsLeft newest (marked_if Free (is_exposed_by frames)) held (marked_keeps Free (is_exposed_by frames)) (record { live = λ h x. refl; current = λ x. refl; keeps = λ h x. refl })
-        (λ i known. mark_free (is_exposed_by frames i) (has_verdict scheme Free newest trace i.hart (translation_of i)) false false i (freed_by by frames i known) refl refl ∙ quiet newest i refl known) are
+        plain IsLeft newest (marked_if Free (is_exposed_by frames)) held (state_keeps (λ i. (marked_if Free (is_exposed_by frames) i).state)) (record { live = λ h x. refl; current = λ x. refl; keeps = λ h x. refl })
+        (λ i known. marked_known Free (is_exposed_by frames) (has_verdict scheme Free newest trace i.hart (translation_of i)) i (freed_by by frames i known) ∙ quiet_given newest i refl known) are
 
     pub claim_ends : (by token : ℕ) (found : Option OpenClaim) (held : List Held) → IsOpenClaim trace token found → AreHeld scheme trace IsLeft held → AreHeld scheme (ClaimEnd by token ∷ trace) IsLeft (map (marked_if Claimed (is_claimed_by found)) held)
     claim_ends by token found held begun are =
         let newest : Record = ClaimEnd by token in
-        plain IsLeft newest (marked_if Claimed (is_claimed_by found)) held (marked_keeps Claimed (is_claimed_by found)) (record { live = λ h x. refl; current = λ x. refl; keeps = λ h x. refl })
-        (λ i known. mark_claimed (is_claimed_by found i) false false (has_verdict scheme Claimed newest trace i.hart (translation_of i)) i (claimed_by by token found i begun known) refl refl ∙ quiet newest i refl known) are
+        plain IsLeft newest (marked_if Claimed (is_claimed_by found)) held (state_keeps (λ i. (marked_if Claimed (is_claimed_by found) i).state)) (record { live = λ h x. refl; current = λ x. refl; keeps = λ h x. refl })
+        (λ i known. marked_known Claimed (is_claimed_by found) (has_verdict scheme Claimed newest trace i.hart (translation_of i)) i (claimed_by by token found i begun known) ∙ quiet_given newest i refl known) are
 
   -- fences
   module _ (Old New : ℕ → Translation → ℕ → Type 0) where
@@ -236,7 +149,7 @@ module _ (scheme : Scheme) (trace : Trace) where
           stays = λ hart x n norm l not_live last dead none. inr (keeps hart x n l last none);
           kept = λ i known t. held-on scheme newest trace i.hart (translation_of i) known.held (not-true ((by == i.hart) && is_fenced scheme rs1 rs2 i.entry) t);
           dropped = λ i known last t dead. not-false ((by == i.hart) && is_fenced scheme rs1 rs2 i.entry) t;
-          after = λ i known h. quiet newest i refl known;
+          after = λ i known h. quiet newest i refl refl known;
         }) are)
 
     taken_all : (by token : ℕ) (found : Option OpenFence) (i : Held) → IsOpenFence trace token found → IsKnown scheme trace i → is_dropped scheme (RemoteEnd by token) trace i.hart (translation_of i) ≡ true → is_taken_by scheme found i ≡ true
@@ -284,22 +197,9 @@ module _ (scheme : Scheme) (trace : Trace) where
           kept = λ i known t. held-on scheme newest trace i.hart (translation_of i) known.held
               (false_from_ne_true _ (λ gone. true≢false (sym (taken_all by token found i begun known gone) ∙ not-true (is_taken_by scheme found i) t)));
           dropped = λ i known last t dead. all_taken by token found i begun last (not-false (is_taken_by scheme found i) t);
-          after = λ i known h. quiet newest i refl known;
+          after = λ i known h. quiet newest i refl refl known;
         }) are)
 
-  -- after a change of memory or of satp
-  pub settled_after : (m : Bool) (n : ℕ) (i : Held) → settled m n i ≡ advanced m n false false false i
-  settled_after true n i = refl
-  settled_after false n i = refl
-
-  pub reused_after : (m : Bool) (n : ℕ) (t r : Bool) (i : Held) → t ≡ r → settled m n (marked_if Reuse (λ _. t) i) ≡ advanced m n false r false i
-  reused_after true n t r i e = elim t as (λ t. settled true n (marked_if Reuse (λ _. t) i) ≡ advanced true n false r false i) [ true ↦ refl | false ↦ refl ]
-  reused_after false n t r i e =
-      (elim t as (λ t. settled false n (marked_if Reuse (λ _. t) i) ≡ advanced false n false t false i) [ true ↦ refl | false ↦ refl ])
-      ∙ ap (λ b. advanced false n false b false i) e
-
-  -- a mark for the verdict at a frame that is given out
-  pub mark_reuse : (t f r c : Bool) (i : Held) → t ≡ r → f ≡ false → c ≡ false → marked_if Reuse (λ _. t) i ≡ record i { freed = f || i.freed; reused = r || i.reused; claimed = c || i.claimed }
-  mark_reuse t f r c i e a b =
-      (elim t as (λ t. marked_if Reuse (λ _. t) i ≡ record i { reused = t || i.reused }) [ true ↦ refl | false ↦ refl ])
-      ∙ (λ j. record i { freed = sym a j || i.freed; reused = e j || i.reused; claimed = sym b j || i.claimed })
+  -- after a change of memory or of satp, which gives no verdict
+  pub settled_after : (m : Bool) (n : ℕ) (i : Held) → with_state (rechecked m n i.state) i ≡ with_state (advanced m n none_given i.state) i
+  settled_after m n i = ap (λ s. with_state (rechecked m n s) i) (sym (nothing_given i.state))

@@ -4,7 +4,6 @@ use Rattle.std.specs.Prelude.{◌&&◌, cond, not, nat_le, nat_lt, is_some, zero
 use Rattle.std.proofs.lemmas.Bool.{cases_lt, and_parts, and_from, or_cases, or_left, or_right, true≢false, false_from_ne_true}
 use Rattle.pte.specs.declared.scheme.Scheme.{Scheme}
 use Rattle.watch.specs.declared.trace.Verdict.{Verdict}
-use Rattle.watch.specs.declared.trace.Verdict.TheVariants.{Free, Reuse, Claimed}
 use Rattle.watch.specs.Trace.{Trace}
 use Rattle.watch.specs.Holding.{Translation}
 use Rattle.watch.specs.ComputedTraces.{has_held, is_stale}
@@ -72,9 +71,7 @@ module _ (scheme : Scheme) (trace : Trace) where
         held = good.held;
         last = good.last;
         since = sym (not_stale_none scheme trace s.hart (last_translation s) fine);
-        freed = sym (not_stale_not_had scheme Free trace s.hart (last_translation s) fine);
-        reused = sym (not_stale_not_had scheme Reuse trace s.hart (last_translation s) fine);
-        claimed = sym (not_stale_not_had scheme Claimed trace s.hart (last_translation s) fine);
+        given = λ v once. sym (not_stale_not_had scheme v trace s.hart (last_translation s) fine);
       }
 
   touched_known : (s : LastLive) (i : Held) → s.last_live ≤ last_live_of scheme trace i.hart (translation_of i) → IsKnown scheme trace i → IsKnown scheme trace (touched s i)
@@ -82,9 +79,7 @@ module _ (scheme : Scheme) (trace : Trace) where
     held = known.held;
     last = later-both i.last_live s.last_live _ known.last last;
     since = known.since;
-    freed = known.freed;
-    reused = known.reused;
-    claimed = known.claimed;
+    given = known.given;
   }
 
   each_remembered : (s : LastLive) → IsGood s → (held : List Held) → Each (IsKnown scheme trace) held → Each (IsKnown scheme trace) (remembered s held)

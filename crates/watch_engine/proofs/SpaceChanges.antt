@@ -19,17 +19,19 @@ use Rattle.watch_engine.specs.declared.left.Left.{Left}
 use Rattle.watch_engine.specs.declared.left.PastFence.{PastFence}
 use Rattle.watch_engine.specs.declared.open.OpenClaim.{OpenClaim}
 use Rattle.watch_engine.specs.declared.open.OpenFence.{OpenFence}
-use Rattle.watch_engine.specs.Held.{AreEntered, IsNormalized, IsWith, all_found_again, found_again, is_current_by, knows, settled, translation_of}
+use Rattle.watch_engine.specs.Held.{AreEntered, IsNormalized, IsWith, all_found_again, found_again, is_current_by, knows, stale_since, translation_of, with_state}
+use Rattle.watch_engine.specs.declared.state.State.TheVariants.{Current}
+use Rattle.watch_engine.specs.State.{rechecked}
 use Rattle.watch_engine.specs.Left.{EachLeft, IsLeftAt, IsLeftHeld, added, is_other, is_space, takes, with_left}
 use Rattle.watch_engine.specs.Follows.{AreHeld, IsHeldFrom, IsKnown}
 use Rattle.watch_engine.specs.Standing.{AreRoots, IsLeftWithin, Stands}
 use Rattle.watch_engine.proofs.Leaving.{any_first, any_last, any_member, any_out, any_pushed, any_weaker, any_with, each_pushed, filter_each, filter_in, filter_out}
-use Rattle.watch_engine.proofs.Moments.{held_stale, stale_some}
-use Rattle.watch_engine.proofs.Lists.{KeepsKey, filter_same, map_same}
+use Rattle.watch_engine.proofs.Moments.{held_stale}
+use Rattle.watch_engine.proofs.Lists.{KeepsKey, filter_same, map_same, state_keeps}
 use Rattle.watch_engine.proofs.Records.{all_pass, quiet, same, same_keeps, settled_after}
 use Rattle.watch_engine.proofs.SpaceRoots.{current_same, roots_current, roots_entered}
 use Rattle.watch_engine.proofs.Standings.{current_of, drop_end, live_from, more_records, since_now, to_live}
-use Rattle.watch_engine.proofs.Steps.{After, held-on, step}
+use Rattle.watch_engine.proofs.Steps.{After, held-on, known_some, step}
 
 -- a list with one place written
 set-other : (xs : List (Option Space)) (k h : ℕ) (s : Option Space) → (k ≡ h → ⊥) → get_or (set xs k s) h None ≡ get_or xs h None
@@ -126,15 +128,6 @@ or-more true t false true = refl
 or-more true t false false = refl
 or-more false true a b = refl
 or-more false false a b = refl
-
-pub found-keeps : (test : Translation → Bool) (root : ℕ) → KeepsKey (found_again test root)
-found-keeps test root =
-    let is : Held → Bool = λ i. is_some i.stale_since && (i.entry.global && test (record { root = root; entry = i.entry })) in
-    let h : (t : Bool) (i : Held) → (cond t (settled true 0 i) i).hart ≡ i.hart = λ t i. elim t as (λ t. (cond t (settled true 0 i) i).hart ≡ i.hart) [ true ↦ refl | false ↦ refl ] in
-    let r : (t : Bool) (i : Held) → (cond t (settled true 0 i) i).root ≡ i.root = λ t i. elim t as (λ t. (cond t (settled true 0 i) i).root ≡ i.root) [ true ↦ refl | false ↦ refl ] in
-    let e : (t : Bool) (i : Held) → (cond t (settled true 0 i) i).entry ≡ i.entry = λ t i. elim t as (λ t. (cond t (settled true 0 i) i).entry ≡ i.entry) [ true ↦ refl | false ↦ refl ] in
-    let l : (t : Bool) (i : Held) → (cond t (settled true 0 i) i).last_live ≡ i.last_live = λ t i. elim t as (λ t. (cond t (settled true 0 i) i).last_live ≡ i.last_live) [ true ↦ refl | false ↦ refl ] in
-    record { hart = λ i. h (is i) i; root = λ i. r (is i) i; entry = λ i. e (is i) i; last = λ i. l (is i) i }
 
 -- with the space that the hart leaves among those that were left
 module _ {scheme : Scheme} {trace : Trace} {words : Tables} {since : ℕ → ℕ → ℕ} {satps : List (Option Space)} {roots : List ℕ} {held : List Held} {left : List Left} {drops : List PastFence} {fences : List OpenFence} {claims : List OpenClaim} {count : ℕ}
@@ -240,27 +233,27 @@ module _ {scheme : Scheme} {trace : Trace} {words : Tables} {since : ℕ → ℕ
     found-after-satp i known =
         let x : Translation = translation_of i in
         let n : ℕ = length (newest ∷ trace) in
-        let stale : is_some i.stale_since ≡ not (is_current scheme trace x) = ap is_some known.since ∙ (stale_some scheme trace i.hart x ∙ held_stale scheme trace i.hart x known.held) in
-        let go : (c f : Bool) → is_current scheme trace x ≡ c → found x ≡ f → cond (not c && f) (settled true 0 i) i ≡ After scheme newest trace i =
-        λ c f. elim c as (λ c. is_current scheme trace x ≡ c → found x ≡ f → cond (not c && f) (settled true 0 i) i ≡ After scheme newest trace i) [
-          | true ↦ λ was is. quiet scheme trace newest i (current-more x ∙ (ap (λ b. b || found x) was ∙ sym was)) known
-          | false ↦ λ was. elim f as (λ f. found x ≡ f → cond f (settled true 0 i) i ≡ After scheme newest trace i) [
+        let stale : is_some (stale_since i) ≡ not (is_current scheme trace x) = known_some scheme trace i known ∙ held_stale scheme trace i.hart x known.held in
+        let go : (c f : Bool) → is_current scheme trace x ≡ c → found x ≡ f → with_state (cond (not c && f) Current i.state) i ≡ After scheme newest trace i =
+        λ c f. elim c as (λ c. is_current scheme trace x ≡ c → found x ≡ f → with_state (cond (not c && f) Current i.state) i ≡ After scheme newest trace i) [
+          | true ↦ λ was is. quiet scheme trace newest i refl (current-more x ∙ (ap (λ b. b || found x) was ∙ sym was)) known
+          | false ↦ λ was. elim f as (λ f. found x ≡ f → with_state (cond f Current i.state) i ≡ After scheme newest trace i) [
             | true ↦ λ is.
                 let now : is_current scheme (newest ∷ trace) x ≡ true = current-more x ∙ (λ j. was j || is j) in
-                sym (ap (λ b. settled b n i) now) ∙ settled_after scheme trace (is_current scheme (newest ∷ trace) x) n i
-            | false ↦ λ is. quiet scheme trace newest i (current-more x ∙ ((λ j. was j || is j) ∙ sym was)) known
+                sym (ap (λ b. with_state (rechecked b n i.state) i) now) ∙ settled_after scheme trace (is_current scheme (newest ∷ trace) x) n i
+            | false ↦ λ is. quiet scheme trace newest i refl (current-more x ∙ ((λ j. was j || is j) ∙ sym was)) known
           ]
         ] in
-        ap (λ b. cond (b && found x) (settled true 0 i) i) stale ∙ go (is_current scheme trace x) (found x) refl refl
+        ap (λ b. with_state (cond (b && found x) Current i.state) i) stale ∙ go (is_current scheme trace x) (found x) refl refl
 
   quiet-after-satp : these ≡ roots → (i : Held) → IsKnown scheme trace i → i ≡ After scheme newest trace i
   quiet-after-satp unchanged i known =
-      quiet scheme trace newest i
+      quiet scheme trace newest i refl
       (current_same scheme trace (newest ∷ trace) (translation_of i) (λ root. sym (at.spaces root) ∙ (ap (list_any (λ r. r == root)) (sym unchanged) ∙ spaces root)) (λ root counts. ((λ m. m), (λ m. m)))) known
 
   entered-held : (new : Option ℕ) → (new ≡ None → these ≡ roots) → ((root : ℕ) → new ≡ Some root → IsWith root roots these) → (now : List Held) → now ≡ all_found_again test new held → AreHeld scheme (newest ∷ trace) New now
   entered-held (Some root) same more now is =
-      subst (AreHeld scheme (newest ∷ trace) New) (sym is) (entered-are (found_again test root) (found-keeps test root) (found-after-satp root (more root refl)))
+      subst (AreHeld scheme (newest ∷ trace) New) (sym is) (entered-are (found_again test root) (state_keeps (λ i. (found_again test root i).state)) (found-after-satp root (more root refl)))
   entered-held None unchanged more now is =
       subst (AreHeld scheme (newest ∷ trace) New) (map_same held ∙ sym is) (entered-are same same_keeps (quiet-after-satp (unchanged refl)))
 

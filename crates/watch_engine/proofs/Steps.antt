@@ -1,30 +1,46 @@
 -- What a record leaves of what is known.
-use Rattle.std.proofs.Common.{◌≡◌, ℕ, ◌≤◌, ◌⊎◌, Bool, true, false, None, List, ◌∷◌, length, ap, sym, ◌∙◌, subst, inl, inr, arith}
-use Rattle.std.specs.Prelude.{◌&&◌, ◌||◌, cond, not, map, filter}
-use Rattle.std.proofs.lemmas.Bool.{and_parts, and_from, or_right, not-true, true≢false, cases_Bool}
+use Rattle.std.proofs.Common.{◌≡◌, ℕ, ◌≤◌, ◌⊎◌, Bool, true, false, List, ◌∷◌, length, ap, sym, ◌∙◌, subst, refl, inl, inr, arith}
+use Rattle.std.specs.Prelude.{◌&&◌, ◌||◌, cond, is_some, not, map, filter}
+use Rattle.std.proofs.lemmas.Bool.{and_parts, and_from, or_right, not-true, true≢false, false_from_ne_true, cases_Bool}
 use Rattle.pte.specs.declared.scheme.Scheme.{Scheme}
 use Rattle.watch.specs.declared.trace.Record.{Record}
-use Rattle.watch.specs.declared.trace.Verdict.TheVariants.{Free, Reuse, Claimed}
+use Rattle.watch.specs.declared.trace.Verdict.{Verdict}
+use Rattle.watch.specs.declared.trace.Verdict.TheVariants.{Free, Reuse, Claimed, Used}
 use Rattle.watch.specs.Trace.{Trace}
 use Rattle.watch.specs.Holding.{Translation}
-use Rattle.watch.specs.ComputedTraces.{is_current, has_held, has_verdict, is_dropped, is_held, is_live, is_stale}
+use Rattle.watch.specs.ComputedTraces.{is_current, has_verdict, is_dropped, is_held, is_live, is_stale}
+use Rattle.watch.proofs.ComputedTraces.{stale_iff, verdict_iff}
+use Rattle.watch.proofs.Judged.{verdict-stale}
 use Rattle.watch_engine.specs.declared.held.Held.{Held}
-use Rattle.watch_engine.specs.Held.{IsNormalized, knows, since_after, translation_of}
-use Rattle.watch_engine.specs.Follows.{AreHeld, IsKnown, last_live_of, stale_since_of}
+use Rattle.watch_engine.specs.declared.state.Given.{Given}
+use Rattle.watch_engine.specs.Held.{IsNormalized, knows, since_after, stale_since, translation_of, with_state}
+use Rattle.watch_engine.specs.State.{is_once, was_given}
+use Rattle.watch_engine.specs.Follows.{AreHeld, IsKnown, last_live_of}
 use Rattle.watch_engine.proofs.Lists.{KeepsKey, each_filter, each_map, knows_filter, knows_map, of_same}
-use Rattle.watch_engine.proofs.Moments.{held_stale, last_within, live_now}
+use Rattle.watch_engine.proofs.Moments.{held_stale, last_within, live_now, stale_some}
+use Rattle.watch_engine.proofs.Rechecks.{advanced, advanced_given, advanced_since}
 
--- what is known after a record, by whether the tables have it then, the number of records, and the verdicts given
-abbrev pub advanced : Bool → ℕ → Bool → Bool → Bool → Held → Held
-advanced true n free reuse claim i = record i { stale_since = None; freed = false; reused = false; claimed = false }
-advanced false n free reuse claim i =
-    record i { stale_since = since_after true n i.stale_since; freed = free || i.freed; reused = reuse || i.reused; claimed = claim || i.claimed }
+pub known_some : (scheme : Scheme) (trace : Trace) (i : Held) → IsKnown scheme trace i → is_some (stale_since i) ≡ is_stale scheme trace i.hart (translation_of i)
+known_some scheme trace i known = ap is_some known.since ∙ stale_some scheme trace i.hart (translation_of i)
+
+-- a verdict is given of what is stale
+verdict_stale : (scheme : Scheme) (trace : Trace) (v : Verdict) (newest : Record) (hart : ℕ) (x : Translation) → has_verdict scheme v newest trace hart x ≡ true → is_stale scheme trace hart x ≡ true
+verdict_stale scheme trace v newest hart x h = (stale_iff scheme trace hart x).1 (verdict-stale scheme v newest trace hart x ((verdict_iff scheme v newest trace hart x).0 h))
 
 module _ (scheme : Scheme) (newest : Record) (trace : Trace) where
+  -- the verdicts that are given at the record, of those that are given once
+  abbrev pub given_at : ℕ → Translation → Given
+  given_at hart x =
+      record { free = has_verdict scheme Free newest trace hart x; reuse = has_verdict scheme Reuse newest trace hart x; claimed = has_verdict scheme Claimed newest trace hart x }
+
+  at_once : (hart : ℕ) (x : Translation) (v : Verdict) → is_once v ≡ true → was_given v (given_at hart x) ≡ has_verdict scheme v newest trace hart x
+  at_once hart x Free once = refl
+  at_once hart x Reuse once = refl
+  at_once hart x Claimed once = refl
+  at_once hart x Used once = cc
+
   abbrev pub After : Held → Held
-  After i =
-      advanced (is_current scheme (newest ∷ trace) (translation_of i)) (length (newest ∷ trace))
-      (has_verdict scheme Free newest trace i.hart (translation_of i)) (has_verdict scheme Reuse newest trace i.hart (translation_of i)) (has_verdict scheme Claimed newest trace i.hart (translation_of i)) i
+  After i = with_state (advanced (is_current scheme (newest ∷ trace) (translation_of i)) (length (newest ∷ trace)) (given_at i.hart (translation_of i)) i.state) i
 
   pub last_grows : (hart : ℕ) (x : Translation) (n : ℕ) → n ≤ last_live_of scheme trace hart x → n ≤ last_live_of scheme (newest ∷ trace) hart x
   last_grows hart x n less =
@@ -40,31 +56,18 @@ module _ (scheme : Scheme) (newest : Record) (trace : Trace) where
       let x : Translation = translation_of i in
       let h : ℕ = i.hart in
       let n : ℕ = length (newest ∷ trace) in
-      let f : Bool = has_verdict scheme Free newest trace h x in
-      let r : Bool = has_verdict scheme Reuse newest trace h x in
-      let c : Bool = has_verdict scheme Claimed newest trace h x in
-      let stale = held_stale scheme (newest ∷ trace) h x held in
-      let later : i.last_live ≤ last_live_of scheme (newest ∷ trace) h x = last_grows h x i.last_live known.last in
-      let go : (m : Bool) → is_stale scheme (newest ∷ trace) h x ≡ not m → IsKnown scheme (newest ∷ trace) (advanced m n f r c i) =
-      λ m. elim m as (λ m. is_stale scheme (newest ∷ trace) h x ≡ not m → IsKnown scheme (newest ∷ trace) (advanced m n f r c i)) [
-        | true ↦ λ s. record {
-          held = held;
-          last = later;
-          since = sym (ap (λ b. since_after b n (stale_since_of scheme trace h x)) s);
-          freed = sym (ap (λ b. b && (f || has_held scheme Free trace h x)) s);
-          reused = sym (ap (λ b. b && (r || has_held scheme Reuse trace h x)) s);
-          claimed = sym (ap (λ b. b && (c || has_held scheme Claimed trace h x)) s);
-        }
-        | false ↦ λ s. record {
-          held = held;
-          last = later;
-          since = ap (since_after true n) known.since ∙ sym (ap (λ b. since_after b n (stale_since_of scheme trace h x)) s);
-          freed = ap (λ b. f || b) known.freed ∙ sym (ap (λ b. b && (f || has_held scheme Free trace h x)) s);
-          reused = ap (λ b. r || b) known.reused ∙ sym (ap (λ b. b && (r || has_held scheme Reuse trace h x)) s);
-          claimed = ap (λ b. c || b) known.claimed ∙ sym (ap (λ b. b && (c || has_held scheme Claimed trace h x)) s);
-        }
-      ] in
-      go (is_current scheme (newest ∷ trace) x) stale
+      let m : Bool = is_current scheme (newest ∷ trace) x in
+      let more : Given = given_at h x in
+      let stale : is_stale scheme (newest ∷ trace) h x ≡ not m = held_stale scheme (newest ∷ trace) h x held in
+      record {
+        held = held;
+        last = last_grows h x i.last_live known.last;
+        since = advanced_since m n more i.state ∙ (λ j. since_after (sym stale j) n (known.since j));
+        given = λ v once.
+            let none : is_some (stale_since i) ≡ false → was_given v more ≡ false =
+            λ fresh. at_once h x v once ∙ false_from_ne_true _ (λ t. true≢false (sym (verdict_stale scheme trace v newest h x t) ∙ (sym (known_some scheme trace i known) ∙ fresh))) in
+            advanced_given v m n more i.state none ∙ (λ j. sym stale j && (at_once h x v once j || known.given v once j));
+      }
 
   abbrev pub LiveAfter : ℕ → Translation → Bool
   LiveAfter hart x = is_live scheme (newest ∷ trace) hart x

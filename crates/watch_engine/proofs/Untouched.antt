@@ -9,7 +9,8 @@ use Rattle.watch_tables.specs.declared.way.Way.{Way}
 use Rattle.watch_engine.specs.declared.held.Held.{Held}
 use Rattle.watch_engine.specs.declared.slot.Slot.{Slot}
 use Rattle.watch_engine.specs.Slots.{has, turned}
-use Rattle.watch_engine.specs.Held.{settled, translation_of}
+use Rattle.watch_engine.specs.Held.{translation_of, with_state}
+use Rattle.watch_engine.specs.State.{rechecked}
 use Rattle.watch_engine.specs.Touched.{is_touched, is_touched_on, settled_if}
 use Rattle.watch_engine.proofs.Walks.{and_no}
 
@@ -53,13 +54,13 @@ same_list touched current live n (i ∷ items) none =
     let f : Held → Held = λ i. settled_if (touched i) (current i) n i in
     let p : Held → Bool = λ i. not (touched i && live i) in
     ap (λ (t : Bool). map f (cond (not (t && live i)) (i ∷ filter p items) (filter p items))) parts.0
-    ∙ ((λ j. cond (parts.0 j) (settled (current i) n i) i ∷ map f (filter p items)) ∙ ap (λ (l : List Held). i ∷ l) (same_list touched current live n items parts.1))
+    ∙ ((λ j. with_state (cond (parts.0 j) (rechecked (current i) n i.state) i.state) i ∷ map f (filter p items)) ∙ ap (λ (l : List Held). i ∷ l) (same_list touched current live n items parts.1))
 
 -- each place is left as it is
 same_slot : (touched current live : Held → Bool) (n : ℕ) (i : Held) (b : Bool) → (not b && touched i) ≡ false
     → turned (λ i. settled_if (touched i) (current i) n i) (λ i. not (not (touched i && live i))) (record { item = i; is_gone = b }) ≡ record { item = i; is_gone = b }
 same_slot touched current live n i true none = refl
-same_slot touched current live n i false none = λ j. record { item = cond (none j) (settled (current i) n i) i; is_gone = not (not (none j && live i)) }
+same_slot touched current live n i false none = λ j. record { item = with_state (cond (none j) (rechecked (current i) n i.state) i.state) i; is_gone = not (not (none j && live i)) }
 
 pub same_slots : (touched current live : Held → Bool) (n : ℕ) (slots : List Slot) → list_any (has touched) slots ≡ false
     → map (turned (λ i. settled_if (touched i) (current i) n i) (λ i. not (not (touched i && live i)))) slots ≡ slots

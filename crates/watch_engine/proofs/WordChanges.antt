@@ -27,7 +27,8 @@ use Rattle.watch_engine.specs.declared.left.PastFence.{PastFence}
 use Rattle.watch_engine.specs.declared.open.OpenClaim.{OpenClaim}
 use Rattle.watch_engine.specs.declared.open.OpenFence.{OpenFence}
 use Rattle.watch_tables.specs.declared.way.Way.{Way}
-use Rattle.watch_engine.specs.Held.{is_current_by, remembered_all, settled, translation_of}
+use Rattle.watch_engine.specs.Held.{is_current_by, remembered_all, translation_of, with_state}
+use Rattle.watch_engine.specs.State.{rechecked}
 use Rattle.watch_engine.specs.Left.{IsLeftAt}
 use Rattle.watch_engine.specs.Seen.{AreSeen}
 use Rattle.watch_engine.specs.Touched.{is_below, is_kept_after, is_touched, is_touched_on, settled_if}
@@ -37,9 +38,9 @@ use Rattle.watch_tables.specs.Through.{Passes}
 use Rattle.watch_tables.specs.Ways.{AreWays}
 use Rattle.watch_engine.proofs.Changes.{PassesIn, stays_or_passes}
 use Rattle.watch_engine.proofs.Leaving.{any_weaker, each_weaker}
-use Rattle.watch_engine.proofs.Lists.{KeepsKey, from_at_most}
+use Rattle.watch_engine.proofs.Lists.{from_at_most, state_keeps}
 use Rattle.watch_engine.proofs.MemoryChanges.{IsChange, changed_ages, changed_are}
-use Rattle.watch_engine.proofs.Records.{quiet, settled_after, settled_keeps}
+use Rattle.watch_engine.proofs.Records.{quiet, settled_after}
 use Rattle.watch_engine.proofs.SpaceRoots.{current_same, roots_current}
 use Rattle.watch_engine.proofs.Standings.{more_records}
 use Rattle.watch_engine.proofs.Steps.{After}
@@ -48,15 +49,6 @@ way-any : (test : Way → Bool) (w : Way) (ways : List Way) (k : ℕ) → k < le
 way-any test w [] k within is h = absurd (omega arith)
 way-any test w (v ∷ ways) zero within is h = or_left (test v) (list_any test ways) (ap test is ∙ h)
 way-any test w (v ∷ ways) (suc k) within is h = or_right (test v) (list_any test ways) (way-any test w ways k (omega arith) is h)
-
-pub settled-keeps-if : (touched is : Held → Bool) (n : ℕ) → KeepsKey (λ i. settled_if (touched i) (is i) n i)
-settled-keeps-if touched is n =
-    let k : KeepsKey (λ i. settled (is i) n i) = settled_keeps is n in
-    let h : (t : Bool) (i : Held) → (settled_if t (is i) n i).hart ≡ i.hart = λ t i. elim t as (λ t. (settled_if t (is i) n i).hart ≡ i.hart) [ true ↦ k.hart i | false ↦ refl ] in
-    let r : (t : Bool) (i : Held) → (settled_if t (is i) n i).root ≡ i.root = λ t i. elim t as (λ t. (settled_if t (is i) n i).root ≡ i.root) [ true ↦ k.root i | false ↦ refl ] in
-    let e : (t : Bool) (i : Held) → (settled_if t (is i) n i).entry ≡ i.entry = λ t i. elim t as (λ t. (settled_if t (is i) n i).entry ≡ i.entry) [ true ↦ k.entry i | false ↦ refl ] in
-    let l : (t : Bool) (i : Held) → (settled_if t (is i) n i).last_live ≡ i.last_live = λ t i. elim t as (λ t. (settled_if t (is i) n i).last_live ≡ i.last_live) [ true ↦ k.last i | false ↦ refl ] in
-    record { hart = λ i. h (touched i) i; root = λ i. r (touched i) i; entry = λ i. e (touched i) i; last = λ i. l (touched i) i }
 
 module _ {scheme : Scheme} {trace : Trace} {words : Tables} {since : ℕ → ℕ → ℕ} {satps : List (Option Space)} {roots : List ℕ} {held : List Held} {left : List Left} {drops : List PastFence} {fences : List OpenFence} {claims : List OpenClaim} {count : ℕ}
     (at : Stands scheme trace words since satps roots held left drops fences claims count) (by address word : ℕ) (new : Tables) (ages : ℕ → ℕ → ℕ) (stores : new ≡ stored words (page_number address) (index_of address) word)
@@ -173,8 +165,8 @@ module _ {scheme : Scheme} {trace : Trace} {words : Tables} {since : ℕ → ℕ
         let n : count + 1 ≡ length (newest ∷ trace) = more_records at newest in
         let go : (t : Bool) → is_touched scheme roots (index_of address) ways x ≡ t → settled_if t (is_current_by (is_mapped scheme new) roots x) (count + 1) i ≡ After scheme newest trace i =
         λ t. elim t as (λ t. is_touched scheme roots (index_of address) ways x ≡ t → settled_if t (is_current_by (is_mapped scheme new) roots x) (count + 1) i ≡ After scheme newest trace i) [
-          | true ↦ λ h. (λ j. settled (tests x j) (n j) i) ∙ settled_after scheme trace (is_current scheme (newest ∷ trace) x) (length (newest ∷ trace)) i
-          | false ↦ λ h. quiet scheme trace newest i (same-current x h) known
+          | true ↦ λ h. (λ j. with_state (rechecked (tests x j) (n j) i.state) i) ∙ settled_after scheme trace (is_current scheme (newest ∷ trace) x) (length (newest ∷ trace)) i
+          | false ↦ λ h. quiet scheme trace newest i refl (same-current x h) known
         ] in
         go (is_touched scheme roots (index_of address) ways x) refl
 
@@ -196,7 +188,7 @@ module _ {scheme : Scheme} {trace : Trace} {words : Tables} {since : ℕ → ℕ
       leaving = is_change.each;
       are = subst (AreHeld scheme (newest ∷ trace) (IsLeftAt scheme new ages drops left)) (sym is)
           (changed_are at newest is_in new ages Goes left is_change seen all (is_kept_after scheme new satps roots (index_of address) ways) change
-          (settled-keeps-if (λ i. is_touched scheme roots (index_of address) ways (translation_of i)) (λ i. is_current_by (is_mapped scheme new) roots (translation_of i)) (count + 1)) gone after);
+          (state_keeps (λ i. (change i).state)) gone after);
       fence = at.fence;
       claim = at.claim;
       records = more_records at newest;

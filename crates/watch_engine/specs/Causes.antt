@@ -1,11 +1,11 @@
 -- What verdicts are given for, and of what.
-use Rattle.std.specs.Prelude.{Bool, false, not, ◌&&◌}
+use Rattle.std.specs.Prelude.{Bool, not, ◌&&◌}
 use Rattle.watch.specs.declared.trace.Verdict.{Verdict}
 use Rattle.watch.specs.declared.trace.Verdict.TheVariants.{Free, Reuse, Claimed, Used}
 use Rattle.watch_engine.specs.declared.cause.Cause.{Cause}
 use Rattle.watch_engine.specs.declared.cause.Cause.TheVariants.{Back, Out, Claim, Access}
 use Rattle.watch_engine.specs.declared.held.Held.{Held}
-use Rattle.watch_engine.specs.Held.{is_claimed_by, is_exposed_by, is_used_by}
+use Rattle.watch_engine.specs.Held.{is_claimed_by, is_exposed_by, is_given, is_used_by}
 
 abbrev pub verdict_of : Cause → Verdict
 verdict_of (Back frames) = Free
@@ -20,12 +20,5 @@ applies (Out frames) i = is_exposed_by frames i
 applies (Claim found) i = is_claimed_by found i
 applies (Access hart space address) i = is_used_by hart space address i
 
--- it has had the verdict since it is stale
-abbrev pub is_marked : Verdict → Held → Bool
-is_marked Free i = i.freed
-is_marked Reuse i = i.reused
-is_marked Claimed i = i.claimed
-is_marked Used i = false
-
 abbrev pub is_given_by : Cause → Held → Bool
-is_given_by cause i = applies cause i && not (is_marked (verdict_of cause) i)
+is_given_by cause i = applies cause i && not (is_given (verdict_of cause) i)

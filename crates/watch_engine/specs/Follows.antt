@@ -2,12 +2,13 @@
 use Rattle.std.specs.Prelude.{ℕ, true, false, ◌≡◌, if◌then◌else◌, length}
 use Rattle.std.specs.Prelude.{◌≤◌, ◌⊎◌, List, [], ◌∷◌, Option, None}
 use Rattle.pte.specs.declared.scheme.Scheme.{Scheme}
-use Rattle.watch.specs.declared.trace.Verdict.TheVariants.{Free, Reuse, Claimed}
+use Rattle.watch.specs.declared.trace.Verdict.{Verdict}
 use Rattle.watch.specs.Trace.{Trace}
 use Rattle.watch.specs.Holding.{Translation}
 use Rattle.watch.specs.ComputedTraces.{has_held, is_current, is_held, is_live, is_stale}
 use Rattle.watch_engine.specs.declared.held.Held.{Held}
-use Rattle.watch_engine.specs.Held.{Each, IsNormalized, knows, since_after, translation_of}
+use Rattle.watch_engine.specs.Held.{Each, IsNormalized, is_given, knows, since_after, stale_since, translation_of}
+use Rattle.watch_engine.specs.State.{is_once}
 
 -- the number of records after which it was live last
 abbrev pub last_live_of : Scheme → Trace → ℕ → Translation → ℕ
@@ -28,10 +29,10 @@ stale_since_of scheme (newest ∷ trace) hart x =
 pub record IsKnown (scheme : Scheme) (trace : Trace) (i : Held) : Type 0 where
   pub held : is_held scheme trace i.hart (translation_of i) ≡ true
   pub last : i.last_live ≤ last_live_of scheme trace i.hart (translation_of i)
-  pub since : i.stale_since ≡ stale_since_of scheme trace i.hart (translation_of i)
-  pub freed : i.freed ≡ has_held scheme Free trace i.hart (translation_of i)
-  pub reused : i.reused ≡ has_held scheme Reuse trace i.hart (translation_of i)
-  pub claimed : i.claimed ≡ has_held scheme Claimed trace i.hart (translation_of i)
+  pub since : stale_since i ≡ stale_since_of scheme trace i.hart (translation_of i)
+  pub given :
+      (verdict : Verdict) → is_once verdict ≡ true
+      → is_given verdict i ≡ has_held scheme verdict trace i.hart (translation_of i)
 
 -- the hart may hold it, and did so after these many records, and it is not stale
 pub record IsHeldFrom (scheme : Scheme) (trace : Trace) (hart : ℕ) (x : Translation)

@@ -10,7 +10,7 @@ use Rattle.tlb.specs.Fence.{is_fenced}
 use Rattle.watch.specs.declared.trace.Frames.{Frames}
 use Rattle.watch.specs.declared.trace.Space.{Space}
 use Rattle.watch.specs.declared.trace.Verdict.{Verdict}
-use Rattle.watch.specs.declared.trace.Verdict.TheVariants.{Free, Reuse, Claimed, Used}
+use Rattle.watch.specs.declared.trace.Verdict.TheVariants.{Free, Claimed}
 use Rattle.watch.specs.Trace.{has_root, is_among}
 use Rattle.watch.specs.Holding.{Translation, is_covered, names}
 use Rattle.watch.specs.Computed.{is_same}
@@ -20,6 +20,9 @@ use Rattle.watch_engine.specs.declared.held.Held.{Held}
 use Rattle.watch_engine.specs.declared.held.LastLive.{LastLive}
 use Rattle.watch_engine.specs.declared.open.OpenClaim.{OpenClaim}
 use Rattle.watch_engine.specs.declared.open.OpenFence.{OpenFence}
+use Rattle.watch_engine.specs.declared.state.State.{State}
+use Rattle.watch_engine.specs.declared.state.State.TheVariants.{Current}
+use Rattle.watch_engine.specs.State.{given_too, has_had, rechecked, since_of}
 
 abbrev pub is_same_entry : Entry → Entry → Bool
 is_same_entry a b =
@@ -52,6 +55,17 @@ IsNormalized x = normalized x ≡ x
 abbrev pub translation_of : Held → Translation
 translation_of i = record { root = i.root; entry = i.entry }
 
+abbrev pub with_state : State → Held → Held
+with_state s i = record i { state = s }
+
+-- the number of records since which it is stale
+abbrev pub stale_since : Held → Option ℕ
+stale_since i = since_of i.state
+
+-- it has had the verdict since then, of those that are given once
+abbrev pub is_given : Verdict → Held → Bool
+is_given verdict i = has_had verdict i.state
+
 abbrev pub last_translation : LastLive → Translation
 last_translation s = record { root = s.root; entry = s.entry }
 
@@ -77,10 +91,7 @@ held_from s =
       root = s.root;
       entry = s.entry;
       last_live = s.last_live;
-      stale_since = None;
-      freed = false;
-      reused = false;
-      claimed = false;
+      state = Current;
     }
 
 -- with a translation that was live
@@ -135,19 +146,14 @@ stays frames satps root = not (is_among frames root) || is_root_in satps root
 abbrev pub without_frames : Frames → List (Option Space) → List ℕ → List ℕ
 without_frames frames satps roots = filter (stays frames satps) roots
 
--- after a record that may change what the tables have, by whether they have it now
-abbrev pub settled : Bool → ℕ → Held → Held
-settled true now i =
-    record i { stale_since = None; freed = false; reused = false; claimed = false }
-settled false now i = record i { stale_since = since_after true now i.stale_since }
+-- it is global and stale, and the tables of the root have it
+abbrev pub is_found : (Translation → Bool) → ℕ → Held → Bool
+is_found test root i =
+    is_some (stale_since i) && (i.entry.global && test (record { root = root; entry = i.entry }))
 
--- after a hart has come to a new root: of what is global and stale, what the tables of that root have
--- is so no more
+-- after a hart has come to a new root: what its tables have is stale no more
 abbrev pub found_again : (Translation → Bool) → ℕ → Held → Held
-found_again test root i =
-    if is_some i.stale_since && (i.entry.global && test (record { root = root; entry = i.entry }))
-    then settled true 0 i
-    else i
+found_again test root i = with_state (if is_found test root i then Current else i.state) i
 
 abbrev pub all_found_again : (Translation → Bool) → Option ℕ → List Held → List Held
 all_found_again test None held = held
@@ -155,17 +161,13 @@ all_found_again test (Some root) held = map (found_again test root) held
 
 -- after a record that can only take from what the tables have: what is stale stays so
 abbrev pub settled_unless_stale : Bool → ℕ → Held → Held
-settled_unless_stale mapped now i = if is_some i.stale_since then i else settled mapped now i
+settled_unless_stale mapped now i =
+    with_state (if is_some (stale_since i) then i.state else rechecked mapped now i.state) i
 
--- after a verdict of it
-abbrev pub marked : Verdict → Held → Held
-marked Free i = record i { freed = true }
-marked Reuse i = record i { reused = true }
-marked Claimed i = record i { claimed = true }
-marked Used i = i
-
+-- after a verdict, if the test passes it
 abbrev pub marked_if : Verdict → (Held → Bool) → Held → Held
-marked_if verdict test i = if test i then marked verdict i else i
+marked_if verdict test i =
+    with_state (if test i then given_too verdict i.state else i.state) i
 
 -- one of the frames is one that the entry's page is mapped to
 abbrev pub shares : Frames → Entry → Bool
@@ -175,7 +177,7 @@ shares frames e =
 
 -- it is stale, and to one of the frames
 abbrev pub is_exposed_by : Frames → Held → Bool
-is_exposed_by frames i = is_some i.stale_since && shares frames i.entry
+is_exposed_by frames i = is_some (stale_since i) && shares frames i.entry
 
 -- it has been stale since a moment no later than this one
 abbrev pub is_by : Option ℕ → ℕ → Bool
@@ -185,7 +187,7 @@ is_by (Some since) moment = nat_le since moment
 -- the claim is of it, and it has been stale since before that began
 abbrev pub is_claimed_by : Option OpenClaim → Held → Bool
 is_claimed_by None i = false
-is_claimed_by (Some o) i = is_claimed o.claim (translation_of i) && is_by i.stale_since o.begun
+is_claimed_by (Some o) i = is_claimed o.claim (translation_of i) && is_by (stale_since i) o.begun
 
 -- its hart may use it for an access to the address, in the space in its satp
 abbrev pub is_served_in : Option Space → ℕ → Held → Bool
@@ -195,7 +197,8 @@ is_served_in (Some space) address i = is_match space.asid address i.entry
 -- its hart uses it after it was taken for gone
 abbrev pub is_used_by : ℕ → Option Space → ℕ → Held → Bool
 is_used_by hart space address i =
-    (hart == i.hart) && ((i.freed || i.claimed) && is_served_in space address i)
+    (hart == i.hart)
+    && ((is_given Free i || is_given Claimed i) && is_served_in space address i)
 
 -- a fence of the hart leaves it
 abbrev pub outlives_fence : Scheme → ℕ → Option ℕ → Option ℕ → Held → Bool

@@ -1,3 +1,4 @@
+pub mod State
 pub mod Held
 pub mod LastAnswer
 pub mod KeptWays

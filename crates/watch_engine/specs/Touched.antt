@@ -12,7 +12,8 @@ use Rattle.watch.specs.Holding.{Translation}
 use Rattle.watch_tables.specs.Ways.{vpn_from}
 use Rattle.watch_engine.specs.declared.held.Held.{Held}
 use Rattle.watch_tables.specs.declared.way.Way.{Way}
-use Rattle.watch_engine.specs.Held.{settled, translation_of}
+use Rattle.watch_engine.specs.Held.{translation_of, with_state}
+use Rattle.watch_engine.specs.State.{rechecked}
 
 abbrev pub is_below : Scheme → ℕ → Span → Way → Bool
 is_below scheme index page way =
@@ -42,4 +43,5 @@ is_kept_after scheme words satps roots index ways i =
     && is_live_in scheme words (get_or satps i.hart None) (translation_of i))
 
 abbrev pub settled_if : Bool → Bool → ℕ → Held → Held
-settled_if touched current now i = if touched then settled current now i else i
+settled_if touched current now i =
+    with_state (if touched then rechecked current now i.state else i.state) i

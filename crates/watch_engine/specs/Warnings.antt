@@ -17,7 +17,7 @@ use Rattle.watch_engine.specs.declared.cause.Cause.{Cause}
 use Rattle.watch_engine.specs.declared.held.Held.{Held}
 use Rattle.watch_engine.specs.declared.warning.Warning.{Warning}
 use Rattle.watch.specs.Computed.{is_same}
-use Rattle.watch_engine.specs.Held.{translation_of}
+use Rattle.watch_engine.specs.Held.{stale_since, translation_of}
 use Rattle.watch_engine.specs.Causes.{is_given_by, verdict_of}
 
 -- the translation that a warning has
@@ -69,7 +69,7 @@ warning_of verdict i =
       hart = i.hart;
       root = i.root;
       entry = i.entry;
-      stale_since = unwrap_or i.stale_since 0;
+      stale_since = unwrap_or (stale_since i) 0;
     }
 
 abbrev pub with_warning : Cause → Held → List Warning → List Warning

@@ -4,7 +4,7 @@ ghost use Rattle.std.specs.Prelude.{◌≡◌, ◌<◌};
 ghost use Rattle.watch.specs.Verdicts.{is_claimed};
 ghost use Rattle.tlb.specs.Entries.{is_match};
 ghost use Rattle.watch_engine.specs.Held.{is_by, is_claimed_by, is_exposed_by, is_served_in, is_used_by, marked_if, shares, translation_of};
-ghost use Rattle.watch_engine.specs.Causes.{applies, is_given_by, is_marked, verdict_of};
+ghost use Rattle.watch_engine.specs.Causes.{applies, is_given_by, verdict_of};
 
 use crate::fence::reaches;
 use crate::held::Held;
@@ -58,7 +58,7 @@ impl Held {
     fn is_exposed_by(&self, frames: &Frames) -> bool
         ensures { result ≡ is_exposed_by frames.now self.now }
     {
-        self.stale_since.is_some() && shares(frames, &self.entry)
+        self.state.since().is_some() && shares(frames, &self.entry)
     }
 
     fn is_claimed_by(&self, claim: &Option<OpenClaim>) -> bool
@@ -68,7 +68,7 @@ impl Held {
             None => false,
             Some(begun) => {
                 is_claimed(&begun.claim, self.root, &self.entry)
-                    && is_by(self.stale_since, begun.begun)
+                    && is_by(self.state.since(), begun.begun)
             }
         }
     }
@@ -85,7 +85,9 @@ impl Held {
     fn is_used_by(&self, hart: u8, space: &Option<Space>, address: u64) -> bool
         ensures { result ≡ is_used_by hart space.now address self.now }
     {
-        hart == self.hart && (self.freed || self.claimed) && self.is_served_in(space, address)
+        hart == self.hart
+            && (self.state.has_had(Verdict::Free) || self.state.has_had(Verdict::Claimed))
+            && self.is_served_in(space, address)
     }
 
     /// Whether the cause is of it.
@@ -109,19 +111,7 @@ impl Held {
         ensures { self.new ≡ marked_if (verdict_of cause.now) (applies cause.now) self.old }
     {
         if self.is_of_cause(cause) {
-            self.mark(cause.verdict());
-        }
-    }
-
-    /// Whether it has had the cause's verdict since it is stale, of those that are given once.
-    fn is_marked(&self, verdict: Verdict) -> bool
-        ensures { result ≡ is_marked verdict self.now }
-    {
-        match verdict {
-            Verdict::Free => self.freed,
-            Verdict::Reuse => self.reused,
-            Verdict::Claimed => self.claimed,
-            Verdict::Used => false,
+            self.state.give(cause.verdict());
         }
     }
 
@@ -129,7 +119,7 @@ impl Held {
     pub(crate) fn is_given_by(&self, cause: &Cause) -> bool
         ensures { result ≡ is_given_by cause.now self.now }
     {
-        self.is_of_cause(cause) && !self.is_marked(cause.verdict())
+        self.is_of_cause(cause) && !self.state.has_had(cause.verdict())
     }
 }
 

@@ -2,10 +2,11 @@
 
 ghost use Rattle.std.specs.Prelude.{ℕ, Bool, ◌≡◌, ◌↔◌, ◌++◌, ◌∷◌, [], map, Option, OnOk, OnErr, IfOk, Contains, IsTrue};
 ghost use Rattle.watch_tables.specs.Ways.{later};
-ghost use Rattle.watch_engine.specs.Held.{held_from, is_of, is_same_entry, last_live_in, last_translation, marked, settled, translation_of};
+ghost use Rattle.watch_engine.specs.Held.{held_from, is_of, is_same_entry, last_live_in, last_translation};
 
+use crate::state::State;
 use tlb::Entry;
-use watch::{Space, Verdict};
+use watch::Space;
 
 /// A translation that a hart may hold, and what is known of it.
 #[derive(Clone, Copy, PartialEq, Eq, Debug)]
@@ -16,14 +17,7 @@ pub(crate) struct Held {
     pub(crate) entry: Entry,
     /// The number of records after which it was live last, as far as is known.
     pub(crate) last_live: u64,
-    /// The number of records since which it has been stale.
-    pub(crate) stale_since: Option<u64>,
-    /// It has had the verdict `Free` since then.
-    pub(crate) freed: bool,
-    /// It has had the verdict `Reuse` since then.
-    pub(crate) reused: bool,
-    /// It has had the verdict `Claimed` since then.
-    pub(crate) claimed: bool,
+    pub(crate) state: State,
 }
 
 /// A translation that was live for a hart. Of what is global, root and ASID are 0.
@@ -90,10 +84,7 @@ impl Held {
             root: live.root,
             entry: live.entry,
             last_live: live.last_live,
-            stale_since: None,
-            freed: false,
-            reused: false,
-            claimed: false,
+            state: State::Current,
         }
     }
 
@@ -108,31 +99,5 @@ impl Held {
         ensures { self.new ≡ record self.old { last_live = later self.old.last_live last_live } }
     {
         self.last_live = later(self.last_live, last_live);
-    }
-
-    /// With whether the tables have it now.
-    pub(crate) fn settle(&mut self, mapped: bool, count: u64)
-        ensures { self.new ≡ settled mapped count self.old }
-    {
-        if mapped {
-            self.stale_since = None;
-            self.freed = false;
-            self.reused = false;
-            self.claimed = false;
-        } else if self.stale_since.is_none() {
-            self.stale_since = Some(count);
-        }
-    }
-
-    /// With a verdict of it.
-    pub(crate) fn mark(&mut self, verdict: Verdict)
-        ensures { self.new ≡ marked verdict self.old }
-    {
-        match verdict {
-            Verdict::Free => self.freed = true,
-            Verdict::Reuse => self.reused = true,
-            Verdict::Claimed => self.claimed = true,
-            Verdict::Used => {}
-        }
     }
 }

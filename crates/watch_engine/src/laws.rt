@@ -1,6 +1,6 @@
-//! Laws of the warnings: each function does nothing, and its contract is the law.
+//! Laws of the warnings, and of rechecks: each function does nothing, and its contract is the law.
 
-ghost use Rattle.std.specs.Prelude.{ℕ, ◌≡◌, ◌+◌, ◌<◌, ◌≤◌, ◌↔◌, List, [], ◌∷◌, ◌++◌, length, false};
+ghost use Rattle.std.specs.Prelude.{ℕ, Bool, ◌≡◌, ◌+◌, ◌<◌, ◌≤◌, ◌↔◌, List, [], ◌∷◌, ◌++◌, length, false};
 ghost use Rattle.std.specs.List.{AllPairs, Contains};
 ghost use Rattle.pte.specs.declared.flags.PteFlags.{PteFlags};
 ghost use Rattle.pte.specs.declared.scheme.Scheme.{Scheme};
@@ -10,7 +10,9 @@ ghost use Rattle.watch.specs.declared.trace.Verdict.{Verdict};
 ghost use Rattle.watch.specs.Trace.{Trace};
 ghost use Rattle.watch.specs.Holding.{Translation};
 ghost use Rattle.watch.specs.Staleness.{Stale};
+ghost use Rattle.watch_engine.specs.declared.state.State.{State};
 ghost use Rattle.watch_engine.specs.declared.warning.Warning.{Warning};
+ghost use Rattle.watch_engine.specs.State.{rechecked};
 ghost use Rattle.watch_engine.specs.Warnings.{AreApart, AreWarnings, IsDue, IsStaleFrom, Shows, shown_of};
 
 /// A warning that has a translation shows that one; of two translations each is shown by a warning
@@ -111,4 +113,12 @@ pub fn no_warnings_if_none_is_due()
     ensures only { (scheme : Scheme) (newest : Record) (trace : Trace) (warnings : List Warning)
         → AreWarnings scheme newest trace []
         → AreWarnings scheme newest trace warnings → warnings ≡ [] }
+{}
+
+/// A recheck against the tables is idempotent: a second one that finds the same changes nothing,
+/// however much later. What the tables do not have stays stale since the first, with the verdicts that
+/// it has had.
+pub fn recheck_is_idempotent()
+    ensures { (mapped : Bool) (now later : ℕ) (state : State)
+        → rechecked mapped later (rechecked mapped now state) ≡ rechecked mapped now state }
 {}

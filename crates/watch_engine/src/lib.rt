@@ -29,6 +29,7 @@ mod seen_leaf;
 mod shared;
 mod slot;
 mod slots;
+mod state;
 mod tables;
 mod touched;
 mod unseen;
@@ -37,8 +38,8 @@ mod worked_warnings;
 
 pub use engine::{RecordFault, Watch};
 pub use laws::{
-    no_warnings_if_none_is_due, shown_are_stale_from_one_moment, shown_by_one_agree,
-    shows_is_an_equivalence, stale_from_one_moment, warnings_say_the_same,
+    no_warnings_if_none_is_due, recheck_is_idempotent, shown_are_stale_from_one_moment,
+    shown_by_one_agree, shows_is_an_equivalence, stale_from_one_moment, warnings_say_the_same,
 };
 pub use tables::Tables;
 pub use warning::Warning;

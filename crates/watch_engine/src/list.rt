@@ -15,6 +15,7 @@ use crate::keys::By;
 use crate::open::OpenFence;
 use crate::roots::{is_current, is_mapped};
 use crate::slot::Slot;
+use crate::state::State;
 use crate::tables::Tables;
 use crate::warning::Warning;
 use pte::Scheme;
@@ -61,11 +62,11 @@ impl Held {
     fn find_again<T: Tables>(&mut self, tables: &T, scheme: Scheme, root: u64)
         ensures { self.new ≡ found_again (is_mapped scheme (T.words tables.now)) root self.old }
     {
-        if self.stale_since.is_some()
+        if self.state.since().is_some()
             && self.entry.global
             && is_mapped(tables, scheme, root, &self.entry)
         {
-            self.settle(true, 0);
+            self.state = State::Current;
         }
     }
 }
@@ -128,9 +129,9 @@ impl Held {
             (is_mapped scheme (T.words tables.now)) roots.now (translation_of self.old)) count
             self.old }
     {
-        if self.stale_since.is_none() {
+        if self.state.since().is_none() {
             let current = is_current(tables, scheme, roots, self.root, &self.entry);
-            self.settle(current, count);
+            self.state.recheck(current, count);
         }
     }
 }

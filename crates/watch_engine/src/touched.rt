@@ -109,7 +109,7 @@ impl Held {
         }
         let roots = roots.as_slice();
         let current = is_current_again(tables, scheme, roots, last, self.root, &self.entry);
-        self.settle(current, count);
+        self.state.recheck(current, count);
         let space = satp_in(satps, self.hart);
         is_live_in(tables, scheme, space, self.root, &self.entry)
     }

@@ -73,7 +73,7 @@ impl Warning {
             hart: item.hart,
             root: item.root,
             entry: item.entry,
-            stale_since: item.stale_since.unwrap_or(0),
+            stale_since: item.state.since().unwrap_or(0),
         }
     }
 

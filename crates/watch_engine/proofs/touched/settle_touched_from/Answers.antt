@@ -9,10 +9,9 @@ use Rattle.watch_engine.specs.Touched.{is_kept_after, is_touched, settled_if}
 use Rattle.watch_engine.specs.declared.keys.By.TheVariants.{Frame, Page, Root}
 use Rattle.watch_engine.specs.Slots.{count_gone, items_of, turned}
 use Rattle.watch_engine.proofs.Emptying.{all_stay, items_turned}
-use Rattle.watch_engine.proofs.Lists.{KeepsKey}
+use Rattle.watch_engine.proofs.Lists.{KeepsKey, state_keeps}
 use Rattle.watch_engine.proofs.Places.{mapped_whole, whole}
 use Rattle.watch_engine.proofs.Untouched.{filter_not}
-use Rattle.watch_engine.proofs.WordChanges.{settled-keeps-if}
 use Rattle.watch_engine.proofs.touched.settle_touched_from.Goals as goal
 
 pub returns-clause-left : goal.returns-clause-left
@@ -37,7 +36,7 @@ invariant_of-held g c =
     let goes : Held → Bool = λ i. not (kept i) in
     let slots : List Slot = c.args.held.now.slots.items in
     let mapped = mapped_whole (turned f goes) _ c.settle_each_touched-empty.new.slots c.as_mut_slice.result.now slots c.settle_each_touched-empty.ensures.slots c.as_mut_slice.ensures.value c.as_mut_slice.ensures.len in
-    let keeps : KeepsKey f = settled-keeps-if touch current c.args.count in
+    let keeps : KeepsKey f = state_keeps (λ i. (f i).state) in
     let new : List Slot = c.settle_each_touched-empty.new.slots in
     let same : length c.as_mut_slice.result.now ≡ length slots = ap (λ (l : List Slot). length l) c.as_mut_slice.ensures.value in
     let all = whole _ new slots (c.settle_each_touched-empty.auto.slots ∙ same) (sym c.as_mut_slice.ensures.len ∙ same) in

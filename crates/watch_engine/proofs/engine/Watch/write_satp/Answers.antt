@@ -1,12 +1,9 @@
 use Rattle.watch_engine.specs.Slots.{items_of}
-use Rattle.std.proofs.Common.{◌≡◌, sym, ap, subst, List, length, ℕ}
+use Rattle.std.proofs.Common.{◌≡◌, sym, ap, List, length, ℕ}
 use Rattle.walk.specs.Leads.{Tables}
 use Rattle.watch_engine.specs.declared.held.Held.{Held}
 use Rattle.watch_engine.specs.declared.left.PastFence.{PastFence}
-use Rattle.watch_engine.proofs.SpaceChanges.{leaving_all, left_pushed, other_roots, other_satps, satp_stands}
-use Rattle.watch_engine.specs.declared.left.Left.{Left}
-use Rattle.watch_engine.specs.Standing.{Stands}
-use Rattle.watch_engine.proofs.Standings.{on_err}
+use Rattle.watch_engine.proofs.SpaceChanges.{leaving_all, left_pushed, other_satps, satp_stands}
 use Rattle.watch_engine.proofs.engine.Watch.write_satp.Goals as goal
 
 pub returns-clause-ok : goal.returns-clause-ok

@@ -1,0 +1,64 @@
+-- The state of a translation that a hart may hold: whether the tables have it and, where they do not,
+-- since when, and which verdicts it has had since then.
+use Rattle.std.specs.Prelude.{ℕ, Bool, true, false, ◌||◌, Option, Some, None}
+use Rattle.watch.specs.declared.trace.Verdict.{Verdict}
+use Rattle.watch.specs.declared.trace.Verdict.TheVariants.{Free, Reuse, Claimed, Used}
+use Rattle.watch_engine.specs.declared.state.Given.{Given}
+use Rattle.watch_engine.specs.declared.state.State.{State}
+use Rattle.watch_engine.specs.declared.state.State.TheVariants.{Current, Stale}
+
+-- the verdicts that are given once, of which there are flags; `Used` is given at each use
+abbrev pub is_once : Verdict → Bool
+is_once Free = true
+is_once Reuse = true
+is_once Claimed = true
+is_once Used = false
+
+abbrev pub none_given : Given
+none_given = record { free = false; reuse = false; claimed = false }
+
+abbrev pub was_given : Verdict → Given → Bool
+was_given Free g = g.free
+was_given Reuse g = g.reuse
+was_given Claimed g = g.claimed
+was_given Used g = false
+
+-- the verdict alone, if it is given
+abbrev pub alone : Verdict → Bool → Given
+alone Free is = record none_given { free = is }
+alone Reuse is = record none_given { reuse = is }
+alone Claimed is = record none_given { claimed = is }
+alone Used is = none_given
+
+-- the verdicts of both
+abbrev pub joint : Given → Given → Given
+joint a b =
+    record {
+      free = a.free || b.free;
+      reuse = a.reuse || b.reuse;
+      claimed = a.claimed || b.claimed;
+    }
+
+-- since when it is stale
+abbrev pub since_of : State → Option ℕ
+since_of Current = None
+since_of (Stale given since) = Some since
+
+-- it has had the verdict since then
+abbrev pub has_had : Verdict → State → Bool
+has_had verdict Current = false
+has_had verdict (Stale given since) = was_given verdict given
+
+-- after a record that may change what the tables have, by whether they have it now
+abbrev pub rechecked : Bool → ℕ → State → State
+rechecked true now s = Current
+rechecked false now Current = Stale none_given now
+rechecked false now (Stale given since) = Stale given since
+
+-- after verdicts of it: only what is stale can have them
+abbrev pub given_all : Given → State → State
+given_all more Current = Current
+given_all more (Stale given since) = Stale (joint more given) since
+
+abbrev pub given_too : Verdict → State → State
+given_too verdict s = given_all (alone verdict true) s
