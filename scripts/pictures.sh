@@ -4,7 +4,7 @@
 #     scripts/pictures.sh            compares each with what `svsim draw` prints of its file
 #     scripts/pictures.sh --write    writes each anew
 #
-# Before `./svsim prove` each picture takes about a minute. The last line is `N passed, M failed`.
+# Before `./svsim prove` each picture takes one to two minutes. The last line is `N passed, M failed`.
 set -u
 unset CDPATH
 top=$(cd "$(dirname "$0")/.." && pwd)
