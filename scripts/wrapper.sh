@@ -16,7 +16,7 @@ failed=0
 
 # The part of the toolchain: its version, builds of a program that prints `proved`, and a build that answers each case by what stands
 # in `lines`, `trouble` and `status`, keeps the file that it was given, and counts how often it was called.
-mkdir -p "$own/bin" "$own/tree/crates/svsim" "$own/tree/crates/svsim_watch" "$own/tree/examples/watch"
+mkdir -p "$own/bin" "$own/tree/crates/svsim" "$own/tree/crates/svsim_watch" "$own/tree/examples/watch" "$own/tree/scripts"
 cat >"$own/bin/rt" <<'RT'
 #!/bin/sh
 play=${0%/bin/rt}
@@ -46,6 +46,7 @@ RT
 chmod +x "$own/bin/rt"
 PATH=$own/bin:$PATH
 cp "$top/svsim" "$own/tree/svsim"
+cp "$top/scripts/unproved.sh" "$own/tree/scripts/unproved.sh"
 echo 'svsim: scenario' >"$own/tree/crates.txt"
 echo one >"$own/version"
 : >"$own/lines"
@@ -329,7 +330,10 @@ mkdir "$own/release" "$own/release/bin" "$own/release/libexec"
 cp "$top/svsim" "$own/release/svsim"
 ln -s ../svsim "$own/release/bin/svsim"
 svsim=$own/release/bin/svsim
-says 'the wrapper alone' 6 "run $own/file.toml" "svsim: neither its program nor its sources stand beside $own/release/svsim"
+alone="svsim: neither its program nor its sources stand beside $own/release/svsim"
+says 'the wrapper alone' 6 "run $own/file.toml" "$alone"
+says 'its tour' 6 tour "$alone"
+says 'its proof' 6 prove "$alone"
 printf '#!/bin/sh\necho "released $*"\nexit 1\n' >"$own/release/libexec/svsim"
 chmod +x "$own/release/libexec/svsim"
 echo 'svsim of a release' >"$own/release/BUILD"

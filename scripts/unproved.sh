@@ -1,0 +1,152 @@
+# What ./svsim does until its program is proved: it builds the program without a proof, has it answer every command that suits the file,
+# and keeps the answers. svsim reads this file by `.`; it uses svsim's variables and functions.
+
+# How many bytes a file may have; a trace may have any number.
+most_bytes=1048576
+# How many files have answers that are kept.
+most_answers=100
+
+# Waits for a process, and says every ten seconds how long it has taken.
+wait_for() {
+    tenths=0
+    while kill -0 "$1" 2>/dev/null; do
+        sleep 0.1
+        tenths=$((tenths + 1))
+        if [ $((tenths % 100)) -eq 0 ]; then echo "svsim: $((tenths / 10)) seconds so far" >&2; fi
+    done
+    wait "$1"
+}
+
+# Copies what a command reads: all of a trace, else no more than it takes to see that a file is too large.
+copy_of() {
+    if [ "$1 $2" = "watch -" ]; then cat; elif [ "$1" = watch ]; then cat <"$2"; else head -c $((most_bytes + 1)) <"$2"; fi
+}
+
+# The folder that holds the answers on a file.
+answers_on() {
+    echo "$store/$({ printf '%s\n' "$now" && cat "$1"; } | sha256sum | cut -c1-64)"
+}
+
+# Takes apart what a build printed of its cases: of each that ended, what it wrote and its status. Nothing is taken where a text of
+# the program looks like a line of the toolchain.
+take_apart() {
+    folder=$1 && shift
+    lines=$(grep -c -x -E "== ($(echo "$@" | tr ' ' '|'))" "$own/out" || true)
+    ends=$(grep -c -E "^case=($(echo "$@" | tr ' ' '|')) run=" "$own/err" || true)
+    if [ "$lines" -gt $# ] || [ "$ends" -ne $# ]; then return; fi
+    mkdir -p "$folder"
+    for each in "$@"; do
+        status=$(sed -n "s/^case=$each run=ended status=\([0-9]*\) .*/\1/p" "$own/err")
+        if [ -z "$status" ]; then continue; fi
+        awk -v name="$each" '/^== / { on = ($0 == "== " name); next } on' "$own/out" >"$folder/$each.out"
+        awk -v name="$each" '
+            /^case=[0-9a-z]+ run=/ { if ($1 == "case=" name) { printf "%s", text; exit } text = ""; next }
+            { text = text $0 "\n" }' "$own/err" >"$folder/$each.err"
+        echo "$status" >"$folder/$each.status"
+    done
+}
+
+# Builds the program without a proof, and has it answer these commands on a file: COMMAND FILE [COMMAND FILE ..]
+build() {
+    cases=$own/cases
+    rm -rf "$cases" && mkdir "$cases"
+    names=''
+    while [ $# -gt 0 ]; do
+        cp "$2" "$cases/$1"
+        printf '%s\n{}\n' "${1#[0-9]}" >"$cases/$1.args"
+        names="$names $1"
+        shift 2
+    done
+    try svsim 'one to two minutes on 4 cores, 2 GB'
+}
+
+# The same of `watch` alone, by the smaller program.
+build_watch() {
+    cases=$own/cases
+    mkdir "$cases"
+    cp "$1" "$cases/watch"
+    echo '{}' >"$cases/watch.args"
+    names=watch
+    try svsim_watch '20 to 40 seconds on 4 cores, 0.7 GB'
+}
+
+# Builds a crate's program without a proof, and runs it on the cases: CRATE and what that costs.
+try() {
+    echo "svsim: building without a proof: $2; svsim prove proves and builds the program once" >&2
+    (cd "$top/crates/$1" && exec setsid rt try --steps 1 --cases "$cases") >"$own/out" 2>"$own/err" &
+    child=$!
+    wait_for $child || true
+    child=''
+}
+
+# Keeps the answers of the last files alone.
+forget_oldest() {
+    if [ -d "$kept/answers" ]; then
+        (cd "$kept/answers" && ls -t | tail -n +$((most_answers + 1)) | while read -r each; do rm -rf "$each"; done)
+    fi
+}
+
+# The build read a copy of the file under the name `case`. What it printed is given the name that the caller gave, as the program prints
+# it: at the head of a line of check with `?` for each control character and each that sets the direction (crates/checks/src/shown.rt),
+# and in a picture its last component, of 60 characters at most, with `?` for what is not ASCII (crates/draw/src/heading.rt).
+named() {
+    case $1 in
+    check)
+        NAME=$(printf %s "$file" | tr '\000-\037\177' '?' | LC_ALL=C sed 's/\xc2[\x80-\x9f]/?/g; s/\xd8\x9c/?/g
+            s/\xe2\x80[\x8e\x8f\xaa-\xae]/?/g; s/\xe2\x81[\xa6-\xa9]/?/g') awk '
+            { if (index($0, "case:") == 1) print ENVIRON["NAME"] substr($0, 5); else print }' ;;
+    draw)
+        NAME=$(printf %s "${file##*/}" | tr '\t' ' ' | tr '\000-\037\177' '?' | LC_ALL=C sed "s/[\xc0-\xff][\x80-\xbf]*/?/g
+            s/^\(.\{60\}\)..*/\1../
+            s/&/\&amp;/g; s/</\&lt;/g; s/>/\&gt;/g; s/\"/\&quot;/g; s/'/\&apos;/g") awk '
+            { at = index($0, "<text class=\047subtitle\047") == 1 ? index($0, ">case") : 0
+              if (at) print substr($0, 1, at) ENVIRON["NAME"] substr($0, at + 5); else print }' ;;
+    *) cat ;;
+    esac
+}
+
+print_answer() {
+    named "$2" <"$1/$2.out"
+    cat "$1/$2.err" >&2
+    status=$(cat "$1/$2.status")
+    fault_hint "$2" "$file" "$status"
+    exit "$status"
+}
+
+# A folder for this call, and the store of answers: what is kept, or this call's own.
+begin() {
+    own=$(mktemp -d)
+    child=''
+    trap 'rm -rf "$own"' EXIT
+    trap '[ -z "$child" ] || kill -- "-$child" 2>/dev/null; exit 130' HUP INT TERM
+    now=$(sources)
+    if make_kept; then store=$kept/answers; else store=$own/answers; fi
+}
+
+answer() {
+    begin
+    if ! { copy_of "$command" "$file" >"$own/given"; } 2>/dev/null; then refuse "cannot read $file" "is it there, and yours to read?"; fi
+    if [ "$command" != watch ] && [ "$(wc -c <"$own/given")" -gt $most_bytes ]; then
+        refuse 'file too large' "a file has at most $most_bytes bytes"
+    fi
+    if [ "$command" = live ] || [ "$file" = - ]; then store=$own/answers; fi
+    folder=$(answers_on "$own/given")
+    if [ -f "$folder/$command.status" ]; then print_answer "$folder" "$command"; fi
+    whole=yes
+    if [ "$command" = watch ]; then
+        build_watch "$own/given"
+        # Where the smaller program could not read, write or find memory, the whole one tells it.
+        if ! grep -q '^case=watch run=ended status=6 ' "$own/err"; then whole='' && take_apart "$folder" watch; fi
+    fi
+    if [ -n "$whole" ]; then
+        set --
+        for each in $(suiting "$command" "$own/given"); do set -- "$@" "$each" "$own/given"; done
+        build "$@"
+        take_apart "$folder" $names
+    fi
+    forget_oldest
+    if [ -f "$folder/$command.status" ]; then print_answer "$folder" "$command"; fi
+    cat "$own/err" >&2
+    echo "svsim: the unproved run gave no answer; it may take 60 seconds and print 1 MiB, the proved program more" >&2
+    exit 6
+}
