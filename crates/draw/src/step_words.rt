@@ -3,10 +3,9 @@
 ghost use Rattle.std.specs.Prelude.{◌≡◌, ◌++◌, OnOk, string_bytes};
 ghost use Rattle.std.specs.Fmt.{decimal};
 
-use bitflags::Flags;
 use history::Scope;
 use itoa::Buffer;
-use lines::{push_harts, push_hexadecimal, push_page, push_reply};
+use lines::{Text, push_harts, push_hexadecimal, push_page, push_reply};
 use pte::{Access, Ctx, Mode, Page, PteFlags};
 use shoot::HartSet;
 use spaces::Place;
@@ -104,16 +103,8 @@ fn push_register(text: &mut String, register: Option<u64>) -> Result<(), AllocEr
 }
 
 fn push_flags(text: &mut String, flags: PteFlags) -> Result<(), AllocError> {
-    if flags.is_empty() {
-        return text.push_str("-");
-    }
-    push_if(text, flags.may_read(), "r")?;
-    push_if(text, flags.may_write(), "w")?;
-    push_if(text, flags.may_execute(), "x")?;
-    push_if(text, flags.is_user(), "u")?;
-    push_if(text, flags.is_global(), "g")?;
-    push_if(text, flags.is_accessed(), "a")?;
-    push_if(text, flags.is_dirty(), "d")
+    let flags = Text(flags);
+    write!(text, "{flags}")
 }
 
 fn push_named(text: &mut String, named: u8) -> Result<(), AllocError> {
