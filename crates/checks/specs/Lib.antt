@@ -5,3 +5,4 @@ pub mod Shown
 pub mod Meant
 pub mod Lines
 pub mod Notes
+pub mod WorkedNotes

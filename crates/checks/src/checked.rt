@@ -10,12 +10,12 @@ ghost use Rattle.files.specs.RunFile.{run_plan_of, run_view};
 ghost use Rattle.files.specs.WalkFile.{walk_plan_of};
 ghost use Rattle.checks.specs.Told.{IsStillTrue, command_of, fault_for, fault_in_members, fault_of, is_memory, most_told, name_by, whole_text};
 ghost use Rattle.checks.specs.Lines.{IsInOrder, told_line};
-ghost use Rattle.checks.specs.Notes.{noted_in, noted_in_members, noted_of_plan};
+ghost use Rattle.checks.specs.Notes.{AreNotesOn, noted_in, noted_in_members, noted_of_plan};
 ghost use Rattle.checks.specs.Shown.{shown_name};
 
 use crate::commands::command_of;
 use crate::keys_known::tell_unknown;
-use crate::notes::{notes_on, short_maps};
+use crate::notes::{short_maps, sorted_notes, up_to_last_map};
 use crate::positions::Position;
 use crate::printed::{Told, in_order, text_of};
 use crate::report::{Piece, Report, Spot};
@@ -32,7 +32,7 @@ pub struct Checked {
     /// The faults that are reported, in the order of lines and columns. A fault without a line
     /// comes after those with one, and faults of one place come as they are found.
     pub told: Vec<Told>,
-    /// A note for each map of a scenario of `run` that stops before its leaf, in the order of lines
+    /// A note on each map of a scenario of `run` that stops before its leaf, in the order of lines
     /// and columns, of the first 200; none where there is a fault.
     pub notes: Vec<Told>,
     /// What is printed: the command, a line for each of both, and `ok` or the number of faults.
@@ -71,9 +71,8 @@ fn told(fault: Fault) -> Result<Option<Fault>, AllocError>
 #[derive(Drop)]
 struct Found {
     fault: Option<Fault>,
-    /// The indices of the steps that have a note.
+    /// The numbers of the steps that have a note, from 1 on.
     noted: Vec<usize>,
-    ghost few: { vec_len noted ≤ most_told },
 }
 
 impl Found {
@@ -98,14 +97,19 @@ fn walk_fault(alloc: Global, table: &Table) -> Result<Option<Fault>, AllocError>
     }
 }
 
-/// The indices of the steps of a scenario that have a note.
-fn noted(alloc: Global, scenario: &RunScenario) -> Result<Vec<usize>, AllocError>
-    ensures noted { IfOk result (λ noted. noted.items
-        ≡ noted_of_plan (Ok (run_view scenario.now))) }
-    ensures few { IfOk result (λ noted. vec_len noted ≤ most_told) }
+/// The numbers of the steps of a scenario that have a note. No step after the last `map` is made.
+#[tactic(auto, using(crate::proofs::NoteLemmas::noted_up_to, crate::proofs::NoteLemmas::noted_none))]
+fn noted(alloc: Global, scenario: RunScenario) -> Result<Vec<usize>, AllocError>
+    ensures { IfOk result (λ noted. noted.items ≡ noted_of_plan (Ok (run_view scenario))) }
 {
-    match run_replies(alloc, scenario) {
-        Ok(replies) => short_maps(alloc, scenario.events.as_slice(), replies.as_slice()),
+    let count = up_to_last_map(scenario.events.as_slice());
+    if count == 0 {
+        return Ok(Vec::new(alloc));
+    }
+    let mut made = scenario;
+    made.events.truncate(count);
+    match run_replies(alloc, &made) {
+        Ok(replies) => short_maps(alloc, made.events.as_slice(), replies.as_slice()),
         Err(_no_memory) => Err(AllocError),
     }
 }
@@ -119,7 +123,7 @@ fn found_in_run(alloc: Global, table: &Table) -> Result<Found, AllocError>
 {
     match run_scenario_in(alloc, table) {
         Ok(scenario) => {
-            let noted = noted(alloc, &scenario)?;
+            let noted = noted(alloc, scenario)?;
             Ok(Found { fault: None, noted })
         }
         Err(fault) => Ok(Found::fault(alloc, told(fault)?)),
@@ -227,18 +231,20 @@ fn check_table(alloc: Global, file: &str, text: &str, table: &Table) -> Result<C
     ensures told { IfOk result (λ checked. (checked.fault ≡ None) ↔ (vec_len checked.told ≡ 0)) }
     ensures few { IfOk result (λ checked. vec_len checked.told ≤ most_told) }
     ensures in_order { IfOk result (λ checked. IsInOrder checked.told.items) }
-    ensures noted { IfOk result (λ checked. vec_len checked.notes
-        ≡ length (noted_in_members (command_of (table_view table.now)) (table_view table.now))) }
+    ensures noted { IfOk result (λ checked. AreNotesOn
+        (noted_in_members (command_of (table_view table.now)) (table_view table.now))
+        checked.notes.items) }
     ensures notes_in_order { IfOk result (λ checked. IsInOrder checked.notes.items) }
     ensures text { IfOk result (λ checked. string_bytes checked.text ≡ whole_text
-        (command_name (command_of (table_view table.now))) (map (told_line (shown_name file.now)) checked.told.items)
+        (command_name (command_of (table_view table.now)))
+        (map (told_line (shown_name file.now)) checked.told.items)
         (map (told_line (shown_name file.now)) checked.notes.items)) }
 {
     let command = command_of(table);
     let found = found_in_table(alloc, command, table)?;
     let document = Document { text, table };
     let told = in_order(report_of(alloc, &document, command, &found.fault)?.told)?;
-    let notes = in_order(notes_on(alloc, &document, found.noted.as_slice())?)?;
+    let notes = sorted_notes(alloc, &document, found.noted.as_slice())?;
     let text = text_of(
         alloc,
         command.name(),
@@ -256,6 +262,7 @@ fn check_table(alloc: Global, file: &str, text: &str, table: &Table) -> Result<C
 }
 
 /// What is reported of a text that the reader of TOML refused.
+#[tactic(auto, using(crate::proofs::NoteLemmas::no_notes))]
 fn not_toml(
     alloc: Global,
     file: &str,
@@ -266,7 +273,7 @@ fn not_toml(
     ensures told { IfOk result (λ checked. ¬ (vec_len checked.told ≡ 0)) }
     ensures few { IfOk result (λ checked. vec_len checked.told ≤ most_told) }
     ensures in_order { IfOk result (λ checked. IsInOrder checked.told.items) }
-    ensures noted { IfOk result (λ checked. vec_len checked.notes ≡ 0) }
+    ensures noted { IfOk result (λ checked. AreNotesOn [] checked.notes.items) }
     ensures notes_in_order { IfOk result (λ checked. IsInOrder checked.notes.items) }
     ensures text { IfOk result (λ checked. string_bytes checked.text ≡ whole_text
         (codes "no command") (map (told_line (shown_name file.now)) checked.told.items)
@@ -288,8 +295,8 @@ fn not_toml(
 
 /// Reads a file of any command, and explains each fault that is found in it, 200 at most. The keys
 /// decide which command it is (`command_of`), and `fault` is what that command answers. The steps
-/// of a file for `run` without a fault are made, and each map that stops before its leaf has a note.
-/// `file` is the file's name in the lines.
+/// of a file for `run` without a fault are made, up to the last `map`, and each of the first 200
+/// maps that stop before their leaf has a note. `file` is the file's name in the lines.
 /// `AllocError`: there was not enough memory.
 pub fn check_text(alloc: Global, file: &str, text: &str) -> Result<Checked, AllocError>
     ensures fault { IfOk result (λ checked. option_map failure_of checked.fault ≡ option_map Some
@@ -297,10 +304,11 @@ pub fn check_text(alloc: Global, file: &str, text: &str) -> Result<Checked, Allo
     ensures told { IfOk result (λ checked. (checked.fault ≡ None) ↔ (vec_len checked.told ≡ 0)) }
     ensures few { IfOk result (λ checked. vec_len checked.told ≤ most_told) }
     ensures in_order { IfOk result (λ checked. IsInOrder checked.told.items) }
-    ensures noted { IfOk result (λ checked. vec_len checked.notes ≡ length (noted_in text.now)) }
+    ensures noted { IfOk result (λ checked. AreNotesOn (noted_in text.now) checked.notes.items) }
     ensures notes_in_order { IfOk result (λ checked. IsInOrder checked.notes.items) }
     ensures text { IfOk result (λ checked. string_bytes checked.text ≡ whole_text
-        (name_by (parse_document text.now)) (map (told_line (shown_name file.now)) checked.told.items)
+        (name_by (parse_document text.now))
+        (map (told_line (shown_name file.now)) checked.told.items)
         (map (told_line (shown_name file.now)) checked.notes.items)) }
 {
     match toml::table_from_str(alloc, text) {

@@ -11,6 +11,7 @@ mod layout;
 mod meant;
 mod near;
 mod near_laws;
+mod note_laws;
 mod notes;
 mod places;
 mod positions;
@@ -31,5 +32,6 @@ pub use near::{is_near, is_swap, nearest};
 pub use near_laws::{
     near_words_are_edited_ones, no_word_is_its_own_swap, worked_swaps, worked_words_meant,
 };
+pub use note_laws::worked_notes;
 pub use places::{Mark, Place};
 pub use printed::Told;

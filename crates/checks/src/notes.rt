@@ -1,13 +1,13 @@
 //! Maps that stop before their leaf.
-ghost use Rattle.std.specs.Prelude.{◌≡◌, ◌≤◌, ◌++◌, IfOk, OnOk, length, take, vec_len};
+ghost use Rattle.std.specs.Prelude.{◌≡◌, ◌≤◌, ◌++◌, ◌-◌, IfOk, IsTrue, OnOk, drop, false, length, map, take};
 ghost use Rattle.std.specs.List.{list_any};
-ghost use Rattle.spaces.specs.Holders.{is_same_place};
-ghost use Rattle.checks.specs.Notes.{is_same_page, is_table, mapped_by, maps, short_map, short_maps, stops_short};
+ghost use Rattle.checks.specs.Lines.{IsInOrder};
+ghost use Rattle.checks.specs.Notes.{AreNotesOn, is_map, is_map_of, is_table, mapped_by, note_text, short_map, short_maps, stops_short, text_of_note};
 ghost use Rattle.checks.specs.Told.{most_told};
 
 use crate::places::Place as TextPlace;
-use crate::printed::Told;
-use crate::report::{MOST_TOLD, Piece, Report, Spot};
+use crate::printed::{Told, in_order};
+use crate::report::MOST_TOLD;
 use crate::step_texts::List;
 use crate::values::Document;
 use files::Key;
@@ -16,9 +16,7 @@ use pte::Page;
 use spaces::Place;
 use std::alloc::{AllocError, Global};
 
-const STOPS_SHORT: &str = "only a table was added: map the page again until the answer is `leaf`";
-
-/// The place and the page that a step maps.
+/// The place and the page that a `map` names, refused or not.
 fn mapped_by(event: &Event) -> Option<(Place, Page)>
     ensures { result ≡ mapped_by event.now }
 {
@@ -45,30 +43,18 @@ fn mapped_by(event: &Event) -> Option<(Place, Page)>
     }
 }
 
-fn is_same_place(one: Place, other: Place) -> bool
-    ensures { result ≡ is_same_place one other }
+fn is_map(event: &Event) -> bool
+    ensures { result ≡ is_map event.now }
 {
-    match (one, other) {
-        (Place::Space(one), Place::Space(other)) => one == other,
-        (Place::Kernel, Place::Kernel) => true,
-        (Place::Space(_), Place::Kernel) | (Place::Kernel, Place::Space(_)) => false,
-    }
+    mapped_by(event).is_some()
 }
 
-fn is_same_page(one: Page, other: Page) -> bool
-    ensures { result ≡ is_same_page one other }
-{
-    one.base().get() == other.base().get() && one.size().level() == other.size().level()
-}
-
-/// Whether a step maps this page of this place.
-fn maps(place: Place, page: Page, event: &Event) -> bool
-    ensures { result ≡ maps place page event.now }
+/// Whether a step is a `map` of this page of this place.
+fn is_map_of(place: Place, page: Page, event: &Event) -> bool
+    ensures { result ≡ is_map_of place page event.now }
 {
     match mapped_by(event) {
-        Some((other_place, other_page)) => {
-            is_same_place(other_place, place) && is_same_page(other_page, page)
-        }
+        Some((other_place, other_page)) => other_place == place && other_page == page,
         None => false,
     }
 }
@@ -93,13 +79,13 @@ fn is_table(reply: &Reply) -> bool
     }
 }
 
-fn maps_later(place: Place, page: Page, later: &[Event]) -> bool
-    ensures { result ≡ list_any (maps place page) later.now }
+fn is_named_later(place: Place, page: Page, later: &[Event]) -> bool
+    ensures { result ≡ list_any (is_map_of place page) later.now }
 {
-    later.iter().any(|event| maps(place, page, event))
+    later.iter().any(|event| is_map_of(place, page, event))
 }
 
-/// Whether a step with this reply stored a pointer to a table for a page that no later step maps.
+/// Whether a step with this reply stored a pointer to a table for a page that no later `map` names.
 fn stops_short(event: &Event, reply: &Reply, later: &[Event]) -> bool
     ensures { result ≡ stops_short event.now reply.now later.now }
 {
@@ -107,38 +93,50 @@ fn stops_short(event: &Event, reply: &Reply, later: &[Event]) -> bool
         return false;
     }
     match mapped_by(event) {
-        Some((place, page)) => !maps_later(place, page, later),
+        Some((place, page)) => !is_named_later(place, page, later),
         None => false,
     }
 }
 
-/// Adds the index of a step with this reply, if it stops short.
+/// How many steps there are up to the last `map`. Those after it decide of no note.
+pub fn up_to_last_map(events: &[Event]) -> usize
+    ensures within { result ≤ length events.now }
+    ensures none_after { list_any is_map (drop result events.now) ≡ false }
+    ensures last { ¬ (result ≡ 0) → IsTrue (list_any is_map (drop (result - 1) events.now)) }
+{
+    let mut count = events.len();
+    while count > 0 && !is_map(&events[count - 1]) {
+        count -= 1;
+    }
+    count
+}
+
+/// Adds the number of a step with this reply, if it stops short.
 fn push_short_map(
     short: &mut Vec<usize>,
-    index: usize,
+    number: usize,
     event: &Event,
     reply: &Reply,
     later: &[Event],
 ) -> Result<(), AllocError>
-    ensures { OnOk result (short.new.items ≡ short.old.items ++ short_map index event.now reply.now
+    ensures { OnOk result (short.new.items ≡ short.old.items ++ short_map number event.now reply.now
         later.now) }
 {
     if !stops_short(event, reply, later) {
         return Ok(());
     }
-    Ok(short.push(index)?)
+    Ok(short.push(number)?)
 }
 
-/// The indices of the steps that stop short, the first 200 of them. `AllocError`: there was not
-/// enough memory.
+/// The numbers of the steps that stop short, from 1 on, the first 200 of them. `AllocError`: there
+/// was not enough memory.
 pub fn short_maps(
     alloc: Global,
     events: &[Event],
     replies: &[Reply],
 ) -> Result<Vec<usize>, AllocError>
-    ensures first { IfOk result (λ short. short.items ≡ take most_told
-        (short_maps 0 events.now replies.now)) }
-    ensures few { IfOk result (λ short. vec_len short ≤ most_told) }
+    ensures { IfOk result (λ short. short.items ≡ take most_told
+        (short_maps 1 events.now replies.now)) }
 {
     let mut short = Vec::new(alloc);
     let mut steps = events;
@@ -149,33 +147,60 @@ pub fn short_maps(
         if short.len() >= MOST_TOLD {
             break;
         }
-        push_short_map(&mut short, index, event, reply, later)?;
+        push_short_map(&mut short, index + 1, event, reply, later)?;
         steps = later;
     }
     Ok(short)
 }
 
-/// A note for each step of these indices, whose map stops short, in their order. `AllocError`: there
-/// was not enough memory.
-pub fn notes_on(
+/// The note on the step of this number.
+fn note_on(
     alloc: Global,
     document: &Document<'_>,
-    short: &[usize],
-) -> Result<Vec<Told>, AllocError>
-    requires few { length short.now ≤ most_told }
-    ensures { IfOk result (λ notes. vec_len notes ≡ length short.now) }
+    place: &TextPlace,
+    number: usize,
+) -> Result<Told, AllocError>
+    ensures { IfOk result (λ note. text_of_note note ≡ note_text number) }
 {
-    let mut report = Report::new(alloc);
-    if short.is_empty() {
-        return Ok(report.told);
+    let at = document.position(place, List::Run.group(), number.saturating_sub(1));
+    let (line, column) = (at.line, at.column);
+    let mut text = String::new(alloc);
+    write!(
+        text,
+        "note: step {number}: only a table was added, and no later `map` names this page"
+    )?;
+    Ok(Told { line, column, text })
+}
+
+/// The notes on the steps of these numbers, in their order.
+fn notes_on(
+    alloc: Global,
+    document: &Document<'_>,
+    numbers: &[usize],
+) -> Result<Vec<Told>, AllocError>
+    ensures { IfOk result (λ notes. map text_of_note notes.items ≡ map note_text numbers.now) }
+{
+    let mut notes = Vec::new(alloc);
+    if numbers.is_empty() {
+        return Ok(notes);
     }
     let place = TextPlace::of_key(alloc, document.text, Key::Steps.name())?;
-    for (count, index) in short.iter().enumerate() {
-        let number = Piece::Number(index.saturating_add(1) as u64);
-        let head = [Piece::Text("note: step "), number, Piece::Text(": ")];
-        let at = document.position(&place, List::Run.group(), *index);
-        let spot = Spot { at, place: &head };
-        report.add(spot, &[Piece::Text(STOPS_SHORT)])?;
+    for (index, number) in numbers.iter().enumerate() {
+        notes.push(note_on(alloc, document, &place, *number)?)?;
     }
-    Ok(report.told)
+    Ok(notes)
+}
+
+/// A note on each of these steps, in the order of lines and columns. `AllocError`: there was not
+/// enough memory.
+#[tactic(auto, using(crate::proofs::NoteLemmas::notes_in_order))]
+pub fn sorted_notes(
+    alloc: Global,
+    document: &Document<'_>,
+    numbers: &[usize],
+) -> Result<Vec<Told>, AllocError>
+    ensures notes { IfOk result (λ notes. AreNotesOn numbers.now notes.items) }
+    ensures in_order { IfOk result (λ notes. IsInOrder notes.items) }
+{
+    in_order(notes_on(alloc, document, numbers)?)
 }

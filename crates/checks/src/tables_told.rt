@@ -25,6 +25,15 @@ const WRONG_PARTS: [&str; 3] = [
     " where WORD is expected: a number below 2^64",
 ];
 
+/// What is wrong with a text `PPN INDEX WORD`.
+#[derive(Clone, Copy)]
+enum Wrong {
+    /// It has not three words.
+    Count,
+    /// Its word of this index, and why.
+    Part(usize, &'static str),
+}
+
 /// Reports what is wrong with the keys `root`, `frames` and `words`.
 pub fn tell_tables(report: &mut Report, document: &Document<'_>)
     ensures { IsStillTrue report.old.is_out_of_memory report.new.is_out_of_memory }
@@ -141,43 +150,45 @@ fn tell_each_word(
         if report.is_full() {
             break;
         }
-        let at = document.position_in_array(place, index);
-        tell_word(report, at, index, frames, text_in(value));
+        let text = text_in(value);
+        if let Some(wrong) = wrong_in(frames, text) {
+            let at = document.position_in_array(place, index);
+            tell_word(report, at, index, wrong, text);
+        }
     }
 }
 
-/// Reports what is wrong with a text `PPN INDEX WORD`, if something is. Which frames there are may
-/// be unknown.
-fn tell_word(
-    report: &mut Report,
-    at: Position<'_>,
-    index: usize,
-    frames: Option<&Vec<u64>>,
-    text: &str,
-)
+/// What is wrong with a text `PPN INDEX WORD`, if something is. Which frames there are may be
+/// unknown.
+fn wrong_in(frames: Option<&Vec<u64>>, text: &str) -> Option<Wrong> {
+    if word_at(text, 2).is_none() || word_at(text, 3).is_some() {
+        return Some(Wrong::Count);
+    }
+    for (index, why) in WRONG_PARTS.iter().enumerate() {
+        let word = word_at(text, index).unwrap_or(b"".as_slice());
+        if !is_part(frames, index, word) {
+            return Some(Wrong::Part(index, *why));
+        }
+    }
+    None
+}
+
+/// Reports what is wrong with a text `PPN INDEX WORD`.
+fn tell_word(report: &mut Report, at: Position<'_>, index: usize, wrong: Wrong, text: &str)
     ensures { IsStillTrue report.old.is_out_of_memory report.new.is_out_of_memory }
 {
     let number = Piece::Number(index.saturating_add(1) as u64);
     let place = [Piece::Text("text "), number, Piece::Text(" of words: ")];
     let spot = Spot { at, place: &place };
-    if word_at(text, 2).is_none() || word_at(text, 3).is_some() {
-        let why = Piece::Text(" is not three numbers PPN INDEX WORD");
-        report.tell(spot, &[Piece::Word(text), why]);
-    } else {
-        tell_parts(report, spot, frames, text);
-    }
-}
-
-/// Reports what is wrong with the words of a text of three, if something is.
-fn tell_parts(report: &mut Report, spot: Spot<'_>, frames: Option<&Vec<u64>>, text: &str)
-    ensures { IsStillTrue report.old.is_out_of_memory report.new.is_out_of_memory }
-{
-    for (index, why) in WRONG_PARTS.iter().enumerate() {
-        let word = word_at(text, index).unwrap_or(b"".as_slice());
-        if !is_part(frames, index, word) {
-            let spot = spot.at_word(index);
-            report.tell(spot, &[Piece::Word(text_of(word)), Piece::Text(why)]);
-            break;
+    match wrong {
+        Wrong::Count => {
+            let why = Piece::Text(" is not three numbers PPN INDEX WORD");
+            report.tell(spot, &[Piece::Word(text), why]);
+        }
+        Wrong::Part(part, why) => {
+            let word = word_at(text, part).unwrap_or(b"".as_slice());
+            let what = [Piece::Word(text_of(word)), Piece::Text(why)];
+            report.tell(spot.at_word(part), &what);
         }
     }
 }

@@ -110,8 +110,8 @@ pub fn check(alloc: Global) -> Verdict {
 pub fn notes(alloc: Global) -> Verdict {
     let usual = Usual {
         status: 0,
-        first: "file for run\na file:1:10: note: step 1: only a table was added: ",
-        last: "map the page again until the answer is `leaf`\nok\n",
+        first: "file for run\na file:1:10: note: step 1: only a table was added, ",
+        last: "and no later `map` names this page\nok\n",
         line: "",
     };
     inspect(alloc, Which::Check, SHORT_MAP, usual)

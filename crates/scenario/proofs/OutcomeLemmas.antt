@@ -4,7 +4,7 @@ use Rattle.std.specs.Prelude.{◌↔◌, option_map, string_bytes}
 use Rattle.std.proofs.lemmas.Option.{same_Some}
 use Rattle.toml.specs.Parse.{parse_document}
 use Rattle.checks.specs.Lines.{IsInOrder, told_line}
-use Rattle.checks.specs.Notes.{noted_in}
+use Rattle.checks.specs.Notes.{AreNotesOn, noted_in}
 use Rattle.checks.specs.Shown.{shown_name}
 use Rattle.checks.specs.Told.{fault_of, name_by, whole_text}
 use Rattle.checks.specs.declared.printed.Told.{Told}
@@ -167,13 +167,13 @@ no_told : (told : List Told) → (length told ≡ 0) ↔ (told ≡ [])
 no_told [] = (λ h. refl, λ h. refl)
 no_told (first ∷ told) = (λ h. absurd (omega (arith, h)), λ h. cc)
 
-pub told_of : (file text : List ℕ) (first : Option Failure) (fault : Option Fault) (printed : List ℕ) (told notes : List Told) (n m : ℕ) → n ≡ length told → m ≡ length notes → option_map failure_of fault ≡ option_map Some first
-    → (fault ≡ None) ↔ (n ≡ 0) → IsInOrder told → m ≡ length (noted_in text) → IsInOrder notes
+pub told_of : (file text : List ℕ) (first : Option Failure) (fault : Option Fault) (printed : List ℕ) (told notes : List Told) (n : ℕ) → n ≡ length told → option_map failure_of fault ≡ option_map Some first
+    → (fault ≡ None) ↔ (n ≡ 0) → IsInOrder told → AreNotesOn (noted_in text) notes → IsInOrder notes
     → printed ≡ whole_text (name_by (parse_document text)) (map (told_line (shown_name file)) told) (map (told_line (shown_name file)) notes) → TellsFaults file text first printed
-told_of file text first fault printed told notes n m many all is none order noted notes_order whole =
+told_of file text first fault printed told notes n many is none order noted notes_order whole =
     let a = told_none first fault is in
     let b = no_told told in
-    (told, notes, whole, order, (λ h. b.0 (sym many ∙ none.0 (a.0 h)), λ h. a.1 (none.1 (many ∙ b.1 h))), notes_order, sym all ∙ noted)
+    (told, notes, whole, order, (λ h. b.0 (sym many ∙ none.0 (a.0 h)), λ h. a.1 (none.1 (many ∙ b.1 h))), notes_order, noted)
 
 pub checked_so : (file text : List ℕ) (fault : Option Fault) (printed : List ℕ) → option_map failure_of fault ≡ option_map Some (fault_of text) → TellsFaults file text (fault_of text) printed
     → IsFound (check file) text printed (finding_of fault)

@@ -18,7 +18,7 @@ use Rattle.scenario.specs.Printed.{Prints as PrintsItems}
 use Rattle.tlb.specs.Mappings.{Mapping}
 use Rattle.lines.specs.Sheet.{Shows}
 use Rattle.checks.specs.Lines.{IsInOrder, told_line}
-use Rattle.checks.specs.Notes.{noted_in}
+use Rattle.checks.specs.Notes.{AreNotesOn, noted_in}
 use Rattle.checks.specs.Shown.{shown_name}
 use Rattle.checks.specs.Told.{name_by, whole_text}
 use Rattle.checks.specs.declared.printed.Told.{Told}
@@ -70,13 +70,13 @@ PrintsState plan lines = Shows plan.config plan.events lines
 
 -- what `check` prints of a text with this first fault: the command that it is for, of each fault
 -- that is told a line that begins with the file's name, in the order of their lines and columns,
--- none if there is no fault; and such a line for each map that stops before its leaf
+-- none if there is no fault; and likewise a line on each of the first 200 steps that have a note
 abbrev pub TellsFaults : List ℕ → List ℕ → Option Failure → List ℕ → Type 0
 TellsFaults file text first lines = (told notes : List Told)
     × (lines ≡ whole_text (name_by (parse_document text)) (map (told_line (shown_name file)) told)
     (map (told_line (shown_name file)) notes))
     × IsInOrder told × ((first ≡ None) ↔ (told ≡ []))
-    × IsInOrder notes × (length notes ≡ length (noted_in text))
+    × IsInOrder notes × AreNotesOn (noted_in text) notes
 
 -- a stale mapping answers some access of the scenario
 abbrev pub UsesOf : Result RunPlan Failure → Type 0

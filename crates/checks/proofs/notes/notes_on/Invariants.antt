@@ -1,5 +1,5 @@
-use Rattle.std.proofs.Common.{◌≡◌, length}
+use Rattle.checks.proofs.NoteLemmas.{NotedSoFar}
 use Rattle.checks.proofs.notes.notes_on.Given as goal
 
-abbrev pub invariant-loop-count : goal.invariant-loop-count
-invariant-loop-count l = length l.report.told.items ≡ l.count
+abbrev pub invariant-loop-index : goal.invariant-loop-index
+invariant-loop-index l = NotedSoFar l.numbers l.index l.notes.items

@@ -6,8 +6,8 @@ use Rattle.checks.proofs.NoteLemmas.{short_at_end, short_enough, short_of_all}
 use Rattle.checks.proofs.notes.short_maps.Goals.{else-loop-index-test, then-loop-index-test+in_default, then-loop-index-test+in-len1-up+then-len-ge-MOST_TOLD}
 use Rattle.checks.proofs.notes.short_maps.Goals as goal
 
-pub returns-clause-first : goal.returns-clause-first
-returns-clause-first c =
+pub returns : goal.returns
+returns c =
     let events : List Event = c.args.events.now in
     let replies : List Reply = c.args.replies.now in
     elim c.loop-index-test.branch [

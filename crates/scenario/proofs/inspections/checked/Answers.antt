@@ -11,6 +11,5 @@ returns c =
     let checked = c.in_ok-checked.checked in
     let found = c.in_ok-checked.ensures in
     let many : vec_len checked.told ≡ length checked.told.items = search rules in
-    let all : vec_len checked.notes ≡ length checked.notes.items = search rules in
-    let tells = told_of file text (fault_of text) checked.fault (string_bytes checked.text) checked.told.items checked.notes.items _ _ many all found.fault found.told found.in_order found.noted found.notes_in_order found.text in
+    let tells = told_of file text (fault_of text) checked.fault (string_bytes checked.text) checked.told.items checked.notes.items _ many found.fault found.told found.in_order found.noted found.notes_in_order found.text in
     rw c.finding_of.ensures (checked_so file text checked.fault (string_bytes checked.text) found.fault tells)
