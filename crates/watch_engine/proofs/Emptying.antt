@@ -7,144 +7,128 @@ use Rattle.std.proofs.lemmas.Bool.{cases_Bool, eqb-true}
 use Rattle.std.proofs.lemmas.List.{append-nil, drop-set, drop_all, drop_more, length-map, length-set, map-append, take-map, take-take, take_all}
 use Rattle.watch_engine.specs.declared.held.Held.{Held}
 use Rattle.watch_engine.specs.declared.keys.By.{By}
-use Rattle.watch_engine.specs.declared.slot.Slot.{Slot}
 use Rattle.watch_engine.specs.Chains.{last_place}
 use Rattle.watch_engine.specs.Keys.{key_of}
-use Rattle.watch_engine.specs.Slots.{IsWithout, has, items_of, key_in, turned}
+use Rattle.watch_engine.specs.Places.{IsWithout, has, is_there, items_of, turned}
+use Rattle.watch_engine.specs.State.{is_gone}
+use Rattle.watch_engine.specs.declared.state.State.{State}
+use Rattle.watch_engine.specs.declared.state.State.TheVariants.{Gone}
+use Rattle.watch_engine.specs.declared.keys.By.TheVariants.{Frame, Page, Root}
+use Rattle.watch_engine.specs.Held.{Each, with_state}
+use Rattle.std.proofs.lemmas.List.Elements.{filter-append}
 use Rattle.watch_engine.proofs.LastPlaces.{last_passes, last_within}
-use Rattle.watch_engine.proofs.Lists.{KeepsKey, filter_same, map_same, state_keeps}
-use Rattle.watch_engine.proofs.Staying.{key_stays}
+use Rattle.watch_engine.proofs.Lists.{each_of, filter_same, map_same}
 use Rattle.watch_engine.proofs.Walks.{and_no, below, here, keyed, or_parts}
 
-abbrev at_place : Held → Bool → Slot
-at_place i b = record { item = i; is_gone = b }
-
 -- the items of places of which some are changed and others go
-items_first : (f : Held → Held) (goes : Held → Bool) (i : Held) (b : Bool) (new : List Slot) (rest : List Held) → items_of new ≡ map f (filter (λ i. not (goes i)) rest)
-    → items_of (turned f goes (at_place i b) ∷ new) ≡ map f (filter (λ i. not (goes i)) (cond b rest (i ∷ rest)))
-items_first f goes i true new rest are = are
-items_first f goes i false new rest are =
-    let left : List Held = filter (λ i. not (goes i)) rest in
-    let go : (b : Bool) → cond b (items_of new) (f i ∷ items_of new) ≡ map f (cond (not b) (i ∷ left) left) = λ b. elim b as (λ b. cond b (items_of new) (f i ∷ items_of new) ≡ map f (cond (not b) (i ∷ left) left)) [
+items_first : (after : Held → State) (goes : Held → Bool) (i : Held) (gone : Bool) (new rest : List Held) → is_gone (after i) ≡ gone → items_of new ≡ map (λ i. with_state (after i) i) (filter (λ i. not (goes i)) rest)
+    → items_of (turned after goes i ∷ new) ≡ map (λ i. with_state (after i) i) (filter (λ i. not (goes i)) (cond (not gone) (i ∷ rest) rest))
+items_first after goes i true new rest is are =
+    let now : Held = with_state (after i) i in
+    elim (goes i) as (λ b. cond (not (is_gone (cond b Gone (after i)))) (with_state (cond b Gone (after i)) i ∷ items_of new) (items_of new) ≡ map (λ i. with_state (after i) i) (filter (λ i. not (goes i)) rest)) [
       | true ↦ are
-      | false ↦ ap (λ (is : List Held). f i ∷ is) are
-    ] in
-    go (goes i)
+      | false ↦ ap (λ (b : Bool). cond (not b) (now ∷ items_of new) (items_of new)) is ∙ are
+    ]
+items_first after goes i false new rest is are =
+    let now : Held = with_state (after i) i in
+    let left : List Held = filter (λ i. not (goes i)) rest in
+    elim (goes i) as (λ b. cond (not (is_gone (cond b Gone (after i)))) (with_state (cond b Gone (after i)) i ∷ items_of new) (items_of new) ≡ map (λ i. with_state (after i) i) (cond (not b) (i ∷ left) left)) [
+      | true ↦ are
+      | false ↦ ap (λ (b : Bool). cond (not b) (now ∷ items_of new) (items_of new)) is ∙ ap (λ (is : List Held). now ∷ is) are
+    ]
 
-pub items_turned : (f : Held → Held) (goes : Held → Bool) (slots : List Slot) → items_of (map (turned f goes) slots) ≡ map f (filter (λ i. not (goes i)) (items_of slots))
-items_turned f goes [] = refl
-items_turned f goes (s ∷ slots) = items_first f goes s.item s.is_gone (map (turned f goes) slots) (items_of slots) (items_turned f goes slots)
+pub items_turned : (after : Held → State) (goes : Held → Bool) → (places : List Held) → Each (λ i. is_gone (after i) ≡ is_gone i.state) places
+    → items_of (map (turned after goes) places) ≡ map (λ i. with_state (after i) i) (filter (λ i. not (goes i)) (items_of places))
+items_turned after goes [] stay = refl
+items_turned after goes (i ∷ places) stay = items_first after goes i (is_gone i.state) (map (turned after goes) places) (items_of places) stay.0 (items_turned after goes places stay.1)
 
-pub items_changed : (f : Held → Held) (slots : List Slot) → items_of (map (turned f (λ i. false)) slots) ≡ map f (items_of slots)
-items_changed f slots = items_turned f (λ i. false) slots ∙ ap (map f) (filter_same (items_of slots))
+pub items_changed : (after : Held → State) → (places : List Held) → Each (λ i. is_gone (after i) ≡ is_gone i.state) places → items_of (map (λ i. with_state (after i) i) places) ≡ map (λ i. with_state (after i) i) (items_of places)
+items_changed after places stay = items_turned after (λ i. false) places stay ∙ ap (map (λ i. with_state (after i) i)) (filter_same (items_of places))
 
-pub items_left : (goes : Held → Bool) (slots : List Slot) → items_of (map (turned (λ i. i) goes) slots) ≡ filter (λ i. not (goes i)) (items_of slots)
-items_left goes slots = items_turned (λ i. i) goes slots ∙ map_same (filter (λ i. not (goes i)) (items_of slots))
-
-item_closed : (i : Held) (b : Bool) (new : List Slot) (rest : List Held) → items_of new ≡ rest → items_of (cond (not b) (at_place i b ∷ new) new) ≡ cond b rest (i ∷ rest)
-item_closed i true new rest are = are
-item_closed i false new rest are = ap (λ (is : List Held). i ∷ is) are
-
-pub items_closed : (slots : List Slot) → items_of (filter (λ s. not s.is_gone) slots) ≡ items_of slots
-items_closed [] = refl
-items_closed (s ∷ slots) = item_closed s.item s.is_gone (filter (λ s. not s.is_gone) slots) (items_of slots) (items_closed slots)
-
-item_append : (i : Held) (b : Bool) (all rest more : List Held) → all ≡ rest ++ more → cond b all (i ∷ all) ≡ cond b rest (i ∷ rest) ++ more
-item_append i true all rest more are = are
-item_append i false all rest more are = ap (λ (is : List Held). i ∷ is) are
-
-pub items_append : (slots more : List Slot) → items_of (slots ++ more) ≡ items_of slots ++ items_of more
-items_append [] more = refl
-items_append (s ∷ slots) more = item_append s.item s.is_gone (items_of (slots ++ more)) (items_of slots) (items_of more) (items_append slots more)
+pub items_left : (goes : Held → Bool) (places : List Held) → items_of (map (turned (λ i. i.state) goes) places) ≡ filter (λ i. not (goes i)) (items_of places)
+items_left goes places = items_turned (λ i. i.state) goes places (each_of (λ i. is_gone i.state ≡ is_gone i.state) (λ i. refl) places) ∙ map_same (filter (λ i. not (goes i)) (items_of places))
 
 -- an empty place at the end has no item
-pub items_before : (slots : List Slot) (n : ℕ) (d : Slot) → n < length slots → (get_or slots n d).is_gone ≡ true → items_of (take (suc n) slots) ≡ items_of (take n slots)
-items_before slots n d h gone =
-    let s : Slot = get_or slots n d in
-    ap items_of (take-suc slots n d h)
-    ∙ (items_append (take n slots) (s ∷ [])
-    ∙ (ap (λ (b : Bool). items_of (take n slots) ++ cond b [] (s.item ∷ [])) gone ∙ append-nil (items_of (take n slots))))
+pub items_before : (places : List Held) (n : ℕ) (d : Held) → n < length places → is_gone (get_or places n d).state ≡ true → items_of (take (suc n) places) ≡ items_of (take n places)
+items_before places n d h gone =
+    let i : Held = get_or places n d in
+    ap items_of (take-suc places n d h)
+    ∙ (filter-append is_there (take n places) (i ∷ [])
+    ∙ (ap (λ (b : Bool). items_of (take n places) ++ cond (not b) (i ∷ []) []) gone ∙ append-nil (items_of (take n places))))
 
 -- what a test finds
-any_first : (t : Held → Bool) (i : Held) (b all : Bool) (rest : List Held) → all ≡ list_any t rest → ((not b && t i) || all) ≡ list_any t (cond b rest (i ∷ rest))
+any_first : (t : Held → Bool) (i : Held) (gone all : Bool) (rest : List Held) → all ≡ list_any t rest → ((not gone && t i) || all) ≡ list_any t (cond (not gone) (i ∷ rest) rest)
 any_first t i true all rest is = is
 any_first t i false all rest is = ap (λ (c : Bool). t i || c) is
 
-pub any_items : (t : Held → Bool) (slots : List Slot) → list_any (has t) slots ≡ list_any t (items_of slots)
+pub any_items : (t : Held → Bool) (places : List Held) → list_any (has t) places ≡ list_any t (items_of places)
 any_items t [] = refl
-any_items t (s ∷ slots) = any_first t s.item s.is_gone (list_any (has t) slots) (items_of slots) (any_items t slots)
+any_items t (i ∷ places) = any_first t i (is_gone i.state) (list_any (has t) places) (items_of places) (any_items t places)
 
 -- keys stay
-key_turned : (f : Held → Held) (goes : Held → Bool) → KeepsKey f → (by : By) (i : Held) (b : Bool) → key_in by (turned f goes (at_place i b)) ≡ key_in by (at_place i b)
-key_turned f goes keeps by i true = refl
-key_turned f goes keeps by i false = key_stays f keeps by i
+key_stays : (by : By) (s : State) (i : Held) → key_of by (with_state s i) ≡ key_of by i
+key_stays Page s i = refl
+key_stays Frame s i = refl
+key_stays Root s i = refl
 
-pub keys_turned : (f : Held → Held) (goes : Held → Bool) → KeepsKey f → (by : By) (slots : List Slot) → map (key_in by) (map (turned f goes) slots) ≡ map (key_in by) slots
-keys_turned f goes keeps by [] = refl
-keys_turned f goes keeps by (s ∷ slots) = λ j. key_turned f goes keeps by s.item s.is_gone j ∷ keys_turned f goes keeps by slots j
+pub keys_turned : (after : Held → State) (goes : Held → Bool) (by : By) (places : List Held) → map (key_of by) (map (turned after goes) places) ≡ map (key_of by) places
+keys_turned after goes by [] = refl
+keys_turned after goes by (i ∷ places) = λ j. key_stays by (cond (goes i) Gone (after i)) i j ∷ keys_turned after goes by places j
 
 -- a change of all leaves the keys as they were
-pub all_stay : (f : Held → Held) (goes : Held → Bool) → KeepsKey f → (by : By) (keys : List ℕ) (slots now : List Slot) → keys ≡ map (key_in by) slots → now ≡ map (turned f goes) slots → keys ≡ map (key_in by) now
-all_stay f goes keeps by keys slots now were is = were ∙ (sym (keys_turned f goes keeps by slots) ∙ ap (map (key_in by)) (sym is))
+pub all_stay : (after : Held → State) (goes : Held → Bool) (by : By) (keys : List ℕ) (places now : List Held) → keys ≡ map (key_of by) places → now ≡ map (turned after goes) places → keys ≡ map (key_of by) now
+all_stay after goes by keys places now were is = were ∙ (sym (keys_turned after goes by places) ∙ ap (map (key_of by)) (sym is))
 
 -- so does that of one, which keeps its root and its entry
-pub one_stays : (by : By) (keys : List ℕ) (slots : List Slot) (place : ℕ) (old new : Slot) → keys ≡ map (key_in by) slots → key_in by new ≡ key_in by (get_or slots place old) → keys ≡ map (key_in by) (set slots place new)
-one_stays by keys slots place old new were is = were ∙ sym (map-set_same (key_in by) slots place new old is)
-
-pub same_keeps : KeepsKey (λ (i : Held). i)
-same_keeps = state_keeps (λ i. i.state)
+pub one_stays : (by : By) (keys : List ℕ) (places : List Held) (place : ℕ) (old new : Held) → keys ≡ map (key_of by) places → key_of by new ≡ key_of by (get_or places place old) → keys ≡ map (key_of by) (set places place new)
+one_stays by keys places place old new were is = were ∙ sym (map-set_same (key_of by) places place new old is)
 
 -- the item of one place goes if the test passes it
-abbrev pub gone_at : (Held → Bool) → Slot → Slot
-gone_at goes s = turned (λ i. i) goes s
+abbrev pub gone_at : (Held → Bool) → Held → Held
+gone_at goes i = turned (λ i. i.state) goes i
 
-none_there : (goes : Held → Bool) (i : Held) (b : Bool) → has goes (gone_at goes (at_place i b)) ≡ false
-none_there goes i true = refl
-none_there goes i false =
-    let go : (b : Bool) → (not b && b) ≡ false = λ b. elim b as (λ b. (not b && b) ≡ false) [
-      | true ↦ refl
-      | false ↦ refl
-    ] in
-    go (goes i)
-
-pub none_at : (goes : Held → Bool) (s : Slot) → has goes (gone_at goes s) ≡ false
-none_at goes s = none_there goes s.item s.is_gone
-
-left_first : (goes : Held → Bool) (i : Held) (b : Bool) (slots : List Slot) → filter (λ i. not (goes i)) (items_of (gone_at goes (at_place i b) ∷ slots)) ≡ filter (λ i. not (goes i)) (cond b (items_of slots) (i ∷ items_of slots))
-left_first goes i true slots = refl
-left_first goes i false slots =
-    let p : Held → Bool = λ i. not (goes i) in
-    let rest : List Held = items_of slots in
-    let go : (b : Bool) → goes i ≡ b → filter p (cond b rest (i ∷ rest)) ≡ cond (not b) (i ∷ filter p rest) (filter p rest) = λ b. elim b as (λ b. goes i ≡ b → filter p (cond b rest (i ∷ rest)) ≡ cond (not b) (i ∷ filter p rest) (filter p rest)) [
+pub none_at : (goes : Held → Bool) (i : Held) → has goes (gone_at goes i) ≡ false
+none_at goes i =
+    let go : (b : Bool) → goes i ≡ b → has goes (with_state (cond b Gone i.state) i) ≡ false = λ b. elim b as (λ b. goes i ≡ b → has goes (with_state (cond b Gone i.state) i) ≡ false) [
       | true ↦ λ t. refl
-      | false ↦ λ t. ap (λ (b : Bool). cond (not b) (i ∷ filter p rest) (filter p rest)) t
+      | false ↦ λ t. ap (λ (b : Bool). is_there i && b) t ∙ and_no (is_there i)
     ] in
     go (goes i) refl
 
-left_later : (goes : Held → Bool) (i : Held) (b : Bool) (new old : List Held) → filter (λ i. not (goes i)) new ≡ filter (λ i. not (goes i)) old → filter (λ i. not (goes i)) (cond b new (i ∷ new)) ≡ filter (λ i. not (goes i)) (cond b old (i ∷ old))
+left_first : (goes : Held → Bool) (i : Held) (gone : Bool) (rest : List Held) → is_gone i.state ≡ gone → filter (λ i. not (goes i)) (cond (is_there (gone_at goes i)) (gone_at goes i ∷ rest) rest) ≡ filter (λ i. not (goes i)) (cond (not gone) (i ∷ rest) rest)
+left_first goes i gone rest is =
+    let p : Held → Bool = λ i. not (goes i) in
+    let go : (b : Bool) → goes i ≡ b → filter p (cond (is_there (with_state (cond b Gone i.state) i)) (with_state (cond b Gone i.state) i ∷ rest) rest) ≡ filter p (cond (not gone) (i ∷ rest) rest) =
+    λ b. elim b as (λ b. goes i ≡ b → filter p (cond (is_there (with_state (cond b Gone i.state) i)) (with_state (cond b Gone i.state) i ∷ rest) rest) ≡ filter p (cond (not gone) (i ∷ rest) rest)) [
+      | true ↦ λ t. elim gone as (λ g. filter p rest ≡ filter p (cond (not g) (i ∷ rest) rest)) [ true ↦ refl | false ↦ sym (ap (λ (b : Bool). cond (not b) (i ∷ filter p rest) (filter p rest)) t) ]
+      | false ↦ λ t. ap (λ (g : Bool). filter p (cond (not g) (i ∷ rest) rest)) is
+    ] in
+    go (goes i) refl
+
+left_later : (goes : Held → Bool) (i : Held) (gone : Bool) (new old : List Held) → filter (λ i. not (goes i)) new ≡ filter (λ i. not (goes i)) old → filter (λ i. not (goes i)) (cond (not gone) (i ∷ new) new) ≡ filter (λ i. not (goes i)) (cond (not gone) (i ∷ old) old)
 left_later goes i true new old are = are
 left_later goes i false new old are = ap (λ (is : List Held). cond (not (goes i)) (i ∷ is) is) are
 
-left_at : (goes : Held → Bool) (slots : List Slot) (n : ℕ) (d : Slot) → n < length slots
-    → filter (λ i. not (goes i)) (items_of (set slots n (gone_at goes (get_or slots n d)))) ≡ filter (λ i. not (goes i)) (items_of slots)
+left_at : (goes : Held → Bool) (places : List Held) (n : ℕ) (d : Held) → n < length places
+    → filter (λ i. not (goes i)) (items_of (set places n (gone_at goes (get_or places n d)))) ≡ filter (λ i. not (goes i)) (items_of places)
 left_at goes [] n d h = absurd (omega arith)
-left_at goes (s ∷ slots) zero d h = left_first goes s.item s.is_gone slots
-left_at goes (s ∷ slots) (suc n) d h = left_later goes s.item s.is_gone (items_of (set slots n (gone_at goes (get_or slots n d)))) (items_of slots) (left_at goes slots n d (omega arith))
+left_at goes (i ∷ places) zero d h = left_first goes i (is_gone i.state) (items_of places) refl
+left_at goes (i ∷ places) (suc n) d h = left_later goes i (is_gone i.state) (items_of (set places n (gone_at goes (get_or places n d)))) (items_of places) (left_at goes places n d (omega arith))
 
-none_left : (f : Slot → ℕ) (k : ℕ) (goes : Held → Bool) (slots : List Slot) (n : ℕ) (d : Slot) → n < length slots
-    → list_any (keyed f k (has goes)) slots ≡ false → list_any (keyed f k (has goes)) (set slots n (gone_at goes (get_or slots n d))) ≡ false
+none_left : (f : Held → ℕ) (k : ℕ) (goes : Held → Bool) (places : List Held) (n : ℕ) (d : Held) → n < length places
+    → list_any (keyed f k (has goes)) places ≡ false → list_any (keyed f k (has goes)) (set places n (gone_at goes (get_or places n d))) ≡ false
 none_left f k goes [] n d h none = absurd (omega arith)
-none_left f k goes (s ∷ slots) zero d h none =
-    (λ j. ((f (gone_at goes s) == k) && none_at goes s j) || list_any (keyed f k (has goes)) slots)
-    ∙ ((λ j. and_no (f (gone_at goes s) == k) j || list_any (keyed f k (has goes)) slots) ∙ (or_parts _ _ none).1)
-none_left f k goes (s ∷ slots) (suc n) d h none =
-    let parts = or_parts (keyed f k (has goes) s) _ none in
-    (λ j. parts.0 j || list_any (keyed f k (has goes)) (set slots n (gone_at goes (get_or slots n d)))) ∙ none_left f k goes slots n d (omega arith) parts.1
+none_left f k goes (i ∷ places) zero d h none =
+    (λ j. ((f (gone_at goes i) == k) && none_at goes i j) || list_any (keyed f k (has goes)) places)
+    ∙ ((λ j. and_no (f (gone_at goes i) == k) j || list_any (keyed f k (has goes)) places) ∙ (or_parts _ _ none).1)
+none_left f k goes (i ∷ places) (suc n) d h none =
+    let parts = or_parts (keyed f k (has goes) i) _ none in
+    (λ j. parts.0 j || list_any (keyed f k (has goes)) (set places n (gone_at goes (get_or places n d)))) ∙ none_left f k goes places n d (omega arith) parts.1
 
-pub without_none : (goes : Held → Bool) (slots : List Slot) → IsWithout goes slots slots
-without_none goes slots = record { left = refl; keys = λ by. refl; none = λ by key none. none }
+pub without_none : (goes : Held → Bool) (places : List Held) → IsWithout goes places places
+without_none goes places = record { left = refl; keys = λ by. refl; none = λ by key none. none }
 
-pub without_both : (goes : Held → Bool) (old now new : List Slot) → IsWithout goes old now → IsWithout goes now new → IsWithout goes old new
+pub without_both : (goes : Held → Bool) (old now new : List Held) → IsWithout goes old now → IsWithout goes now new → IsWithout goes old new
 without_both goes old now new a b =
     record {
       left = b.left ∙ a.left;
@@ -152,79 +136,75 @@ without_both goes old now new a b =
       none = λ by key none. b.none by key (a.none by key none);
     }
 
-key_at : (goes : Held → Bool) (by : By) (s : Slot) → key_in by (gone_at goes s) ≡ key_in by s
-key_at goes by s = key_turned (λ i. i) goes same_keeps by s.item s.is_gone
-
-pub without_at : (goes : Held → Bool) (slots : List Slot) (n : ℕ) (d : Slot) → n < length slots → IsWithout goes slots (set slots n (gone_at goes (get_or slots n d)))
-without_at goes slots n d h =
+pub without_at : (goes : Held → Bool) (places : List Held) (n : ℕ) (d : Held) → n < length places → IsWithout goes places (set places n (gone_at goes (get_or places n d)))
+without_at goes places n d h =
     record {
-      left = left_at goes slots n d h;
-      keys = λ by. map-set_same (key_in by) slots n (gone_at goes (get_or slots n d)) d (key_at goes by (get_or slots n d));
-      none = λ by key none. none_left (key_in by) key goes slots n d h none;
+      left = left_at goes places n d h;
+      keys = λ by. map-set_same (key_of by) places n (gone_at goes (get_or places n d)) d (key_stays by (gone_at goes (get_or places n d)).state (get_or places n d));
+      none = λ by key none. none_left (key_of by) key goes places n d h none;
     }
 
 -- none is behind the last place of the key among the first n, where none is behind these
-none_after : (f : Slot → ℕ) (k : ℕ) (c : Slot → Bool) (slots : List Slot) (d : Slot) (n : ℕ) → n ≤ length slots → list_any (keyed f k c) (drop n slots) ≡ false
-    → list_any (keyed f k c) (drop (last_place k (take n (map f slots))) slots) ≡ false
-none_after f k c slots d zero h none = none
-none_after f k c slots d (suc n) h none =
-    elim (cases_Bool (f (get_or slots n d) == k)) [
-      | inl fits ↦ subst (λ (m : ℕ). list_any (keyed f k c) (drop m slots) ≡ false) (sym (here f k slots n d (omega arith) fits)) none
+none_after : (f : Held → ℕ) (k : ℕ) (c : Held → Bool) (places : List Held) (d : Held) (n : ℕ) → n ≤ length places → list_any (keyed f k c) (drop n places) ≡ false
+    → list_any (keyed f k c) (drop (last_place k (take n (map f places))) places) ≡ false
+none_after f k c places d zero h none = none
+none_after f k c places d (suc n) h none =
+    elim (cases_Bool (f (get_or places n d) == k)) [
+      | inl fits ↦ subst (λ (m : ℕ). list_any (keyed f k c) (drop m places) ≡ false) (sym (here f k places n d (omega arith) fits)) none
       | inr differs ↦
-          (let other : keyed f k c (get_or slots n d) ≡ false = ap (λ (b : Bool). b && c (get_or slots n d)) differs in
+          (let other : keyed f k c (get_or places n d) ≡ false = ap (λ (b : Bool). b && c (get_or places n d)) differs in
           let next : n + 1 ≡ suc n = omega arith in
-          let from : list_any (keyed f k c) (drop n slots) ≡ false =
-          ap (list_any (keyed f k c)) (drop_more slots n d (omega arith))
-          ∙ ((λ j. other j || list_any (keyed f k c) (drop (next j) slots)) ∙ none) in
-          subst (λ (m : ℕ). list_any (keyed f k c) (drop m slots) ≡ false) (sym (below f k slots n d (omega arith) differs)) (none_after f k c slots d n (omega arith) from))
+          let from : list_any (keyed f k c) (drop n places) ≡ false =
+          ap (list_any (keyed f k c)) (drop_more places n d (omega arith))
+          ∙ ((λ j. other j || list_any (keyed f k c) (drop (next j) places)) ∙ none) in
+          subst (λ (m : ℕ). list_any (keyed f k c) (drop m places) ≡ false) (sym (below f k places n d (omega arith) differs)) (none_after f k c places d n (omega arith) from))
     ]
 
 -- a walk along the chain of a key is at a place, and none of those that it looks for is from there on
-pub record Clears (f : Slot → ℕ) (k : ℕ) (c : Slot → Bool) (slots : List Slot) (at : ℕ) : Type 0 where
-  pub within : at ≤ length slots
-  pub key : 0 < at → get_or (map f slots) (at - 1) 0 ≡ k
-  pub none : list_any (keyed f k c) (drop at slots) ≡ false
+pub record Clears (f : Held → ℕ) (k : ℕ) (c : Held → Bool) (places : List Held) (at : ℕ) : Type 0 where
+  pub within : at ≤ length places
+  pub key : 0 < at → get_or (map f places) (at - 1) 0 ≡ k
+  pub none : list_any (keyed f k c) (drop at places) ≡ false
 
-clears_from : (f : Slot → ℕ) (k : ℕ) (c : Slot → Bool) (slots : List Slot) (d : Slot) (n : ℕ) → n ≤ length slots → list_any (keyed f k c) (drop n slots) ≡ false
-    → (at : ℕ) → at ≡ last_place k (take n (map f slots)) → Clears f k c slots at
-clears_from f k c slots d n h none at is =
-    let long : length (map f slots) ≡ length slots = length-map slots f in
-    let low : last_place k (take n (map f slots)) ≤ n = last_within (λ j. j == k) (map f slots) n (omega arith) in
+clears_from : (f : Held → ℕ) (k : ℕ) (c : Held → Bool) (places : List Held) (d : Held) (n : ℕ) → n ≤ length places → list_any (keyed f k c) (drop n places) ≡ false
+    → (at : ℕ) → at ≡ last_place k (take n (map f places)) → Clears f k c places at
+clears_from f k c places d n h none at is =
+    let long : length (map f places) ≡ length places = length-map places f in
+    let low : last_place k (take n (map f places)) ≤ n = last_within (λ j. j == k) (map f places) n (omega arith) in
     record {
       within = omega arith;
-      key = subst (λ (m : ℕ). 0 < m → get_or (map f slots) (m - 1) 0 ≡ k) (sym is) (λ some. eqb-true _ _ (last_passes (λ j. j == k) (map f slots) n (omega arith) some));
-      none = subst (λ (m : ℕ). list_any (keyed f k c) (drop m slots) ≡ false) (sym is) (none_after f k c slots d n h none);
+      key = subst (λ (m : ℕ). 0 < m → get_or (map f places) (m - 1) 0 ≡ k) (sym is) (λ some. eqb-true _ _ (last_passes (λ j. j == k) (map f places) n (omega arith) some));
+      none = subst (λ (m : ℕ). list_any (keyed f k c) (drop m places) ≡ false) (sym is) (none_after f k c places d n h none);
     }
 
-pub clears_first : (f : Slot → ℕ) (k : ℕ) (c : Slot → Bool) (slots : List Slot) (at : ℕ) → at ≡ last_place k (map f slots) → Clears f k c slots at
+pub clears_first : (f : Held → ℕ) (k : ℕ) (c : Held → Bool) (places : List Held) (at : ℕ) → at ≡ last_place k (map f places) → Clears f k c places at
 clears_first f k c [] at is = record { within = omega arith; key = λ some. absurd (omega arith); none = ap (λ (m : ℕ). list_any (keyed f k c) (drop m [])) is }
-clears_first f k c (s ∷ slots) at is =
-    let all : List Slot = s ∷ slots in
-    let long : length (map f (s ∷ slots)) ≡ length (s ∷ slots) = length-map (s ∷ slots) f in
-    clears_from f k c (s ∷ slots) s (length (s ∷ slots)) (omega arith) (ap (list_any (keyed f k c)) (drop_all (length (s ∷ slots)) (s ∷ slots) (omega arith))) at
-    (is ∙ ap (last_place k) (sym (take_all (length (s ∷ slots)) (map f (s ∷ slots)) (omega arith))))
+clears_first f k c (s ∷ places) at is =
+    let all : List Held = s ∷ places in
+    let long : length (map f (s ∷ places)) ≡ length (s ∷ places) = length-map (s ∷ places) f in
+    clears_from f k c (s ∷ places) s (length (s ∷ places)) (omega arith) (ap (list_any (keyed f k c)) (drop_all (length (s ∷ places)) (s ∷ places) (omega arith))) at
+    (is ∙ ap (last_place k) (sym (take_all (length (s ∷ places)) (map f (s ∷ places)) (omega arith))))
 
-pub clears_on : (f : Slot → ℕ) (k : ℕ) (c : Slot → Bool) (slots : List Slot) (at : ℕ) (s : Slot) → Clears f k c slots at → 0 < at → c s ≡ false
-    → map f (set slots (at - 1) s) ≡ map f slots
-    → (older : ℕ) → older ≡ last_place (get_or (map f slots) (at - 1) 0) (take (at - 1) (map f slots)) → Clears f k c (set slots (at - 1) s) older
-clears_on f k c slots at s w some misses same older is =
+pub clears_on : (f : Held → ℕ) (k : ℕ) (c : Held → Bool) (places : List Held) (at : ℕ) (s : Held) → Clears f k c places at → 0 < at → c s ≡ false
+    → map f (set places (at - 1) s) ≡ map f places
+    → (older : ℕ) → older ≡ last_place (get_or (map f places) (at - 1) 0) (take (at - 1) (map f places)) → Clears f k c (set places (at - 1) s) older
+clears_on f k c places at s w some misses same older is =
     let n : ℕ = at - 1 in
     let next : at - 1 + 1 ≡ at = omega arith in
-    let low : at - 1 < length slots = omega (arith, w.within) in
-    let long : length (set slots (at - 1) s) ≡ length slots = length-set slots (at - 1) s in
-    let none : list_any (keyed f k c) (drop (at - 1) (set slots (at - 1) s)) ≡ false =
-    ap (list_any (keyed f k c)) (drop-set slots (at - 1) s low)
-    ∙ ((λ j. ((f s == k) && misses j) || list_any (keyed f k c) (drop (next j) slots))
-    ∙ ((λ j. and_no (f s == k) j || list_any (keyed f k c) (drop at slots)) ∙ w.none)) in
-    clears_from f k c (set slots (at - 1) s) s (at - 1) (omega arith) none older
+    let low : at - 1 < length places = omega (arith, w.within) in
+    let long : length (set places (at - 1) s) ≡ length places = length-set places (at - 1) s in
+    let none : list_any (keyed f k c) (drop (at - 1) (set places (at - 1) s)) ≡ false =
+    ap (list_any (keyed f k c)) (drop-set places (at - 1) s low)
+    ∙ ((λ j. ((f s == k) && misses j) || list_any (keyed f k c) (drop (next j) places))
+    ∙ ((λ j. and_no (f s == k) j || list_any (keyed f k c) (drop at places)) ∙ w.none)) in
+    clears_from f k c (set places (at - 1) s) s (at - 1) (omega arith) none older
     (is ∙ (λ j. last_place (w.key some j) (take (at - 1) (sym same j))))
 
 -- the keys up to a place, where the rest is cut off
-pub front_keys : (f : Slot → ℕ) (n : ℕ) (keys : List ℕ) (slots now : List Slot) → keys ≡ map f slots → now ≡ take n slots → take n keys ≡ map f (take n now)
-front_keys f n keys slots now is left = ap (take n) is ∙ (take-map f n slots ∙ ap (map f) (sym (ap (take n) left ∙ take-take n n slots (omega arith))))
+pub front_keys : (f : Held → ℕ) (n : ℕ) (keys : List ℕ) (places now : List Held) → keys ≡ map f places → now ≡ take n places → take n keys ≡ map f (take n now)
+front_keys f n keys places now is left = ap (take n) is ∙ (take-map f n places ∙ ap (map f) (sym (ap (take n) left ∙ take-take n n places (omega arith))))
 
 -- the keys with one more place at the end
-pub keys_append : (by : By) (keys old : List ℕ) (slots new : List Slot) (s : Slot) (i : Held) → keys ≡ old ++ key_of by i ∷ [] → old ≡ map (key_in by) slots
-    → new ≡ slots ++ s ∷ [] → s ≡ record { item = i; is_gone = false } → keys ≡ map (key_in by) new
-keys_append by keys old slots new s i is was more one =
-    is ∙ ((λ j. was j ++ key_in by (sym one j) ∷ []) ∙ (sym (map-append (key_in by) slots (s ∷ [])) ∙ ap (map (key_in by)) (sym more)))
+pub keys_append : (by : By) (keys old : List ℕ) (places new : List Held) (i : Held) → keys ≡ old ++ key_of by i ∷ [] → old ≡ map (key_of by) places → new ≡ places ++ i ∷ [] → keys ≡ map (key_of by) new
+keys_append by keys old places new i is was more =
+    is ∙ (ap (λ (ks : List ℕ). ks ++ key_of by i ∷ []) was ∙ (sym (map-append (key_of by) places (i ∷ [])) ∙ ap (map (key_of by)) (sym more)))

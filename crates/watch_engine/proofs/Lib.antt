@@ -3,7 +3,7 @@ pub mod LastPlaces
 pub mod ByKey
 pub mod Moments
 pub mod Rechecks
-pub mod Places
+pub mod Placed
 pub mod Changes
 pub mod Opening
 pub mod Remembering
@@ -39,7 +39,6 @@ pub mod Unlinking
 pub mod Dropping
 pub mod Emptying
 pub mod EmptyPlaces
-pub mod Staying
 pub mod Untouched
 pub mod NothingAdded
 pub mod PageHarts

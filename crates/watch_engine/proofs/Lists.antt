@@ -1,5 +1,5 @@
 -- Lists of what harts may hold.
-use Rattle.std.proofs.Common.{◌≡◌, ℕ, ◌<◌, ◌≤◌, Bool, true, false, List, [], ◌∷◌, IsTrue, ap, sym, ◌∙◌, refl, inl, inr, arith}
+use Rattle.std.proofs.Common.{◌≡◌, ℕ, zero, suc, length, take, get_or, ◌<◌, ◌≤◌, Bool, true, false, List, [], ◌∷◌, IsTrue, ap, sym, ◌∙◌, refl, inl, inr, arith}
 use Rattle.std.specs.Prelude.{◌↔◌, ◌==◌, ◌&&◌, ◌||◌, nat_le, nat_lt, cond, map, filter}
 use Rattle.std.proofs.lemmas.Bool.{and_parts, and_from, eq-eqb, eqb-true, or_cases, or_left, or_right, not-true, true≢false}
 use Rattle.std.proofs.lemmas.Bool.Decides.{nat_tests}
@@ -91,6 +91,16 @@ from_within a b h = grind (arith, nat_tests)
 pub each_weaker : (P Q : Held → Type 0) → ((i : Held) → P i → Q i) → (held : List Held) → Each P held → Each Q held
 each_weaker P Q f [] e = tt
 each_weaker P Q f (i ∷ held) e = (f i e.0, each_weaker P Q f held e.1)
+
+pub each_of : (P : Held → Type 0) → ((i : Held) → P i) → (held : List Held) → Each P held
+each_of P f [] = tt
+each_of P f (i ∷ held) = (f i, each_of P f held)
+
+-- of one more of them
+pub each_more : (P : Held → Type 0) (held : List Held) (n : ℕ) (d : Held) → n < length held → Each P (take n held) → P (get_or held n d) → Each P (take (suc n) held)
+each_more P [] n d h e p = absurd (omega arith)
+each_more P (i ∷ held) zero d h e p = (p, tt)
+each_more P (i ∷ held) (suc n) d h e p = (e.0, each_more P held n d (omega arith) e.1 p)
 
 pub each_both : (P Q : Held → Type 0) → (held : List Held) → Each P held → Each Q held → Each (λ i. P i × Q i) held
 each_both P Q [] e f = tt

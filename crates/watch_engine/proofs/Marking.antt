@@ -11,14 +11,13 @@ use Rattle.watch_engine.specs.declared.cause.Cause.{Cause}
 use Rattle.watch_engine.specs.declared.cause.Cause.TheVariants.{Out}
 use Rattle.watch_engine.specs.declared.held.Held.{Held}
 use Rattle.watch_engine.specs.declared.held.LastLive.{LastLive}
-use Rattle.watch_engine.specs.declared.slot.Slot.{Slot}
 use Rattle.watch_engine.specs.declared.warning.Warning.{Warning}
 use Rattle.watch_engine.specs.Causes.{applies, is_given_by, verdict_of}
 use Rattle.watch_engine.specs.Held.{Each, is_exposed_by, is_given, is_of, last_translation, marked_if, remembered, remembered_all, with_state}
-use Rattle.watch_engine.specs.State.{given_too}
-use Rattle.watch_engine.specs.Slots.{items_of}
+use Rattle.watch_engine.specs.State.{given_too, is_gone}
+use Rattle.watch_engine.specs.Places.{items_of}
 use Rattle.watch_engine.specs.Warnings.{is_shown, joined, warning_of, with_warning}
-use Rattle.watch_engine.proofs.Places.{touched}
+use Rattle.watch_engine.proofs.Placed.{touched}
 use Rattle.watch_engine.proofs.Rechecks.{given_again}
 
 -- it has the verdict already, or does not get it
@@ -103,9 +102,9 @@ none_joined cause (i ∷ held) w none =
     go (applies cause i) refl
 
 -- the warnings of places, one after another
-item_joined : (cause : Cause) (i : Held) (b : Bool) (rest : List Held) (w : List Warning) → joined cause (cond b rest (i ∷ rest)) w ≡ joined cause rest (cond b w (with_warning cause i w))
+item_joined : (cause : Cause) (i : Held) (gone : Bool) (rest : List Held) (w : List Warning) → joined cause (cond (not gone) (i ∷ rest) rest) w ≡ joined cause rest (cond gone w (with_warning cause i w))
 item_joined cause i true rest w = refl
 item_joined cause i false rest w = refl
 
-pub slot_joined : (cause : Cause) (s : Slot) (slots : List Slot) (w : List Warning) → joined cause (items_of (s ∷ slots)) w ≡ joined cause (items_of slots) (cond s.is_gone w (with_warning cause s.item w))
-slot_joined cause s slots w = item_joined cause s.item s.is_gone (items_of slots) w
+pub place_joined : (cause : Cause) (i : Held) (places : List Held) (w : List Warning) → joined cause (items_of (i ∷ places)) w ≡ joined cause (items_of places) (cond (is_gone i.state) w (with_warning cause i w))
+place_joined cause i places w = item_joined cause i (is_gone i.state) (items_of places) w

@@ -8,15 +8,14 @@ use Rattle.pte.specs.Address.{Span, level_of}
 use Rattle.watch_engine.specs.declared.held.Held.{Held}
 use Rattle.watch_engine.specs.declared.held.LastLive.{LastLive}
 use Rattle.watch_engine.specs.declared.keys.By.TheVariants.{Page}
-use Rattle.watch_engine.specs.declared.slot.Slot.{Slot}
 use Rattle.watch_engine.specs.Chains.{last_place}
 use Rattle.watch_engine.specs.Held.{held_from, is_of, last_translation, remembered, remembered_all}
-use Rattle.watch_engine.specs.Keys.{page_key}
+use Rattle.watch_engine.specs.Keys.{key_of, page_key}
 use Rattle.watch_engine.specs.PageRuns.{AreHartsOf, AreRememberedUpTo, is_on_page, is_that_page}
-use Rattle.watch_engine.specs.Slots.{has, items_of, key_in}
+use Rattle.watch_engine.specs.Places.{has, items_of}
 use Rattle.watch_engine.proofs.Emptying.{any_items}
 use Rattle.watch_engine.proofs.Lists.{of_same, same_size}
-use Rattle.watch_engine.proofs.Places.{remembered_push, touched}
+use Rattle.watch_engine.proofs.Placed.{remembered_push, touched}
 use Rattle.watch_engine.proofs.Walks.{IsAt, keyed, next, none_among, or_parts, start}
 
 pub same_page : (a b : Span) → is_that_page a b ≡ true → a ≡ b
@@ -29,47 +28,47 @@ same_page a b is =
 page_same : (a b : Span) → a ≡ b → is_that_page a b ≡ true
 page_same a b is = and_from _ _ (eq-eqb _ _ (ap (λ (p : Span). p.base) is)) (eq-eqb _ _ (ap (λ (p : Span). level_of p.size) is))
 
-abbrev pub on : Span → ℕ → Slot → Bool
+abbrev pub on : Span → ℕ → Held → Bool
 on page hart s = has (is_on_page page hart) s
 
 -- a walk along the items with the key of a page is at a place, and has the harts of those from there on
-pub record Gathers (page : Span) (items : List Slot) (at : ℕ) (harts : List Bool) : Type 0 where
-  pub walk : IsAt (key_in Page) (page_key page) (λ _. false) items at
-  pub others : (hart : ℕ) → get_or harts hart true ≡ false → IsAt (key_in Page) (page_key page) (on page hart) items at
+pub record Gathers (page : Span) (items : List Held) (at : ℕ) (harts : List Bool) : Type 0 where
+  pub walk : IsAt (key_of Page) (page_key page) (λ _. false) items at
+  pub others : (hart : ℕ) → get_or harts hart true ≡ false → IsAt (key_of Page) (page_key page) (on page hart) items at
 
 replicated : (count hart : ℕ) → get_or (replicate count true) hart true ≡ true
 replicated zero hart = refl
 replicated (suc count) zero = refl
 replicated (suc count) (suc hart) = replicated count hart
 
-pub gathers_first : (page : Span) (items : List Slot) (at : ℕ) (harts : List Bool) → at ≡ last_place (page_key page) (map (key_in Page) items) → Gathers page items at harts
+pub gathers_first : (page : Span) (items : List Held) (at : ℕ) (harts : List Bool) → at ≡ last_place (page_key page) (map (key_of Page) items) → Gathers page items at harts
 gathers_first page items at harts is =
     record {
-      walk = start (key_in Page) (page_key page) (λ _. false) items at is;
-      others = λ hart none. start (key_in Page) (page_key page) (on page hart) items at is;
+      walk = start (key_of Page) (page_key page) (λ _. false) items at is;
+      others = λ hart none. start (key_of Page) (page_key page) (on page hart) items at is;
     }
 
-pub gathers_on : (page : Span) (items : List Slot) (at : ℕ) (d : Slot) (old new : List Bool) → Gathers page items at old → 0 < at
+pub gathers_on : (page : Span) (items : List Held) (at : ℕ) (d : Held) (old new : List Bool) → Gathers page items at old → 0 < at
     → ((hart : ℕ) → get_or new hart true ≡ (on page hart (get_or items (at - 1) d) || get_or old hart true))
-    → (older : ℕ) → older ≡ last_place (get_or (map (key_in Page) items) (at - 1) 0) (take (at - 1) (map (key_in Page) items)) → Gathers page items older new
+    → (older : ℕ) → older ≡ last_place (get_or (map (key_of Page) items) (at - 1) 0) (take (at - 1) (map (key_of Page) items)) → Gathers page items older new
 gathers_on page items at d old new was some with older is =
     record {
-      walk = next (key_in Page) (page_key page) (λ _. false) items at d was.walk some refl older is;
+      walk = next (key_of Page) (page_key page) (λ _. false) items at d was.walk some refl older is;
       others = λ hart none.
           let parts = or_parts _ _ (sym (with hart) ∙ none) in
-          next (key_in Page) (page_key page) (on page hart) items at d (was.others hart parts.1) some parts.0 older is;
+          next (key_of Page) (page_key page) (on page hart) items at d (was.others hart parts.1) some parts.0 older is;
     }
 
-has_key : (page : Span) (hart : ℕ) (s : Slot) → on page hart s ≡ true → key_in Page s ≡ page_key page
+has_key : (page : Span) (hart : ℕ) (s : Held) → on page hart s ≡ true → key_of Page s ≡ page_key page
 has_key page hart s is =
-    let of = and_parts _ (is_on_page page hart s.item) is in
-    ap page_key (same_page s.item.entry.page page (and_parts (is_that_page s.item.entry.page page) (s.item.hart == hart) of.1).0)
+    let of = and_parts _ (is_on_page page hart s) is in
+    ap page_key (same_page s.entry.page page (and_parts (is_that_page s.entry.page page) (s.hart == hart) of.1).0)
 
-pub gathered : (page : Span) (items : List Slot) (at : ℕ) (harts : List Bool) → Gathers page items at harts → at ≡ 0 → AreHartsOf page (items_of items) harts
+pub gathered : (page : Span) (items : List Held) (at : ℕ) (harts : List Bool) → Gathers page items at harts → at ≡ 0 → AreHartsOf page (items_of items) harts
 gathered page items at harts all end = λ hart none.
-    let keys : list_any (keyed (key_in Page) (page_key page) (on page hart)) items ≡ false =
-    (all.others hart none).any ∙ ap (λ (n : ℕ). list_any (keyed (key_in Page) (page_key page) (on page hart)) (take n items)) end in
-    sym (any_items (is_on_page page hart) items) ∙ none_among (key_in Page) (on page hart) 0 (λ n. n) (page_key page) items (λ n few. absurd (omega arith)) keys (λ s is. inr (has_key page hart s is))
+    let keys : list_any (keyed (key_of Page) (page_key page) (on page hart)) items ≡ false =
+    (all.others hart none).any ∙ ap (λ (n : ℕ). list_any (keyed (key_of Page) (page_key page) (on page hart)) (take n items)) end in
+    sym (any_items (is_on_page page hart) items) ∙ none_among (key_of Page) (on page hart) 0 (λ n. n) (page_key page) items (λ n few. absurd (omega arith)) keys (λ s is. inr (has_key page hart s is))
 
 -- where no hart is left out, each item is of one of them
 pub all_harts : (page : Span) (held : List Held) (count : ℕ) → AreHartsOf page held (replicate count true)

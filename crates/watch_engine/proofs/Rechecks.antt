@@ -5,29 +5,40 @@ use Rattle.watch.specs.declared.trace.Verdict.{Verdict}
 use Rattle.watch.specs.declared.trace.Verdict.TheVariants.{Free, Reuse, Claimed, Used}
 use Rattle.watch_engine.specs.declared.state.Given.{Given}
 use Rattle.watch_engine.specs.declared.state.State.{State}
-use Rattle.watch_engine.specs.declared.state.State.TheVariants.{Current, Stale}
+use Rattle.watch_engine.specs.declared.state.State.TheVariants.{Current, Gone, Stale}
 use Rattle.watch_engine.specs.Held.{since_after}
-use Rattle.watch_engine.specs.State.{alone, given_all, given_too, has_had, joint, none_given, rechecked, since_of, was_given}
+use Rattle.watch_engine.specs.State.{alone, given_all, given_too, has_had, is_gone, joint, none_given, rechecked, since_of, was_given}
 
 -- a second recheck, at any time, changes nothing
 pub rechecked_again : (mapped : Bool) (now later : ℕ) (s : State) → rechecked mapped later (rechecked mapped now s) ≡ rechecked mapped now s
-rechecked_again true now later s = refl
+rechecked_again true now later Current = refl
+rechecked_again true now later (Stale given since) = refl
 rechecked_again false now later Current = refl
 rechecked_again false now later (Stale given since) = refl
+rechecked_again mapped now later Gone = refl
+
+-- what the tables have is current, unless it has gone
+pub current_again : (n : ℕ) (s : State) → is_gone s ≡ false → rechecked true n s ≡ Current
+current_again n Current there = refl
+current_again n (Stale given since) there = refl
+current_again n Gone there = cc
 
 -- what is stale may be left out where the tables have none of that
 pub unless_stale : (mapped : Bool) (n : ℕ) (s : State) → (is_some (since_of s) ≡ true → mapped ≡ false) → cond (is_some (since_of s)) s (rechecked mapped n s) ≡ rechecked mapped n s
 unless_stale mapped n Current h = refl
 unless_stale mapped n (Stale given since) h = ap (λ m. rechecked m n (Stale given since)) (sym (h refl))
+unless_stale mapped n Gone h = refl
 
 -- verdicts
 pub nothing_given : (s : State) → given_all none_given s ≡ s
 nothing_given Current = refl
 nothing_given (Stale given since) = refl
+nothing_given Gone = refl
 
 pub never_used : (s : State) → has_had Used s ≡ false
 never_used Current = refl
 never_used (Stale given since) = refl
+never_used Gone = refl
 
 none_alone : (v : Verdict) → alone v false ≡ none_given
 none_alone Free = refl
@@ -45,10 +56,12 @@ given_again Free (Stale given since) h = λ j. Stale (record given { free = sym 
 given_again Reuse (Stale given since) h = λ j. Stale (record given { reuse = sym h j }) since
 given_again Claimed (Stale given since) h = λ j. Stale (record given { claimed = sym h j }) since
 given_again Used (Stale given since) h = refl
+given_again v Gone h = cc
 
 pub given_since : (more : Given) (s : State) → since_of (given_all more s) ≡ since_of s
 given_since more Current = refl
 given_since more (Stale given since) = refl
+given_since more Gone = refl
 
 had_both : (v : Verdict) (a b : Given) → was_given v (joint a b) ≡ (was_given v a || was_given v b)
 had_both Free a b = refl
@@ -66,17 +79,22 @@ had_none Used = refl
 abbrev pub advanced : Bool → ℕ → Given → State → State
 advanced mapped n more s = rechecked mapped n (given_all more s)
 
-pub advanced_since : (mapped : Bool) (n : ℕ) (more : Given) (s : State) → since_of (advanced mapped n more s) ≡ since_after (not mapped) n (since_of s)
-advanced_since true n more s = refl
-advanced_since false n more Current = refl
-advanced_since false n more (Stale given since) = refl
+pub advanced_since : (mapped : Bool) (n : ℕ) (more : Given) (s : State) → is_gone s ≡ false → since_of (advanced mapped n more s) ≡ since_after (not mapped) n (since_of s)
+advanced_since true n more Current there = refl
+advanced_since true n more (Stale given since) there = refl
+advanced_since false n more Current there = refl
+advanced_since false n more (Stale given since) there = refl
+advanced_since mapped n more Gone there = cc
 
 -- only what was stale has had any
 pub advanced_given : (v : Verdict) (mapped : Bool) (n : ℕ) (more : Given) (s : State) → (is_some (since_of s) ≡ false → was_given v more ≡ false)
     → has_had v (advanced mapped n more s) ≡ (not mapped && (was_given v more || has_had v s))
-advanced_given v true n more s fresh = refl
+advanced_given v true n more Current fresh = refl
+advanced_given v true n more (Stale given since) fresh = refl
+advanced_given v true n more Gone fresh = refl
 advanced_given v false n more Current fresh = had_none v ∙ sym (ap (λ b. b || false) (fresh refl))
 advanced_given v false n more (Stale given since) fresh = had_both v more given
+advanced_given v false n more Gone fresh = sym (ap (λ b. b || false) (fresh refl))
 
 -- where it is stale after the record exactly if it was before, the tables change nothing
 pub advanced_quiet : (mapped : Bool) (n : ℕ) (more : Given) (s : State) → is_some (since_of s) ≡ not mapped → advanced mapped n more s ≡ given_all more s
@@ -84,3 +102,41 @@ advanced_quiet true n more Current h = refl
 advanced_quiet true n more (Stale given since) h = cc
 advanced_quiet false n more Current h = cc
 advanced_quiet false n more (Stale given since) h = refl
+advanced_quiet mapped n more Gone h = refl
+
+-- none goes by a change of its state, and none comes back
+pub recheck_stays : (mapped : Bool) (n : ℕ) (s : State) → is_gone (rechecked mapped n s) ≡ is_gone s
+recheck_stays true n Current = refl
+recheck_stays false n Current = refl
+recheck_stays true n (Stale given since) = refl
+recheck_stays false n (Stale given since) = refl
+recheck_stays mapped n Gone = refl
+
+given_stays : (more : Given) (s : State) → is_gone (given_all more s) ≡ is_gone s
+given_stays more Current = refl
+given_stays more (Stale given since) = refl
+given_stays more Gone = refl
+
+pub advanced_stays : (mapped : Bool) (n : ℕ) (more : Given) (s : State) → is_gone (advanced mapped n more s) ≡ is_gone s
+advanced_stays mapped n more s = recheck_stays mapped n (given_all more s) ∙ given_stays more s
+
+pub found_stays : (found : Bool) (s : State) → is_gone (cond (is_some (since_of s) && found) Current s) ≡ is_gone s
+found_stays true Current = refl
+found_stays true (Stale given since) = refl
+found_stays true Gone = refl
+found_stays false Current = refl
+found_stays false (Stale given since) = refl
+found_stays false Gone = refl
+
+pub settled_stays : (mapped : Bool) (n : ℕ) (s : State) → is_gone (cond (is_some (since_of s)) s (rechecked mapped n s)) ≡ is_gone s
+settled_stays mapped n Current = recheck_stays mapped n Current
+settled_stays mapped n (Stale given since) = refl
+settled_stays mapped n Gone = refl
+
+pub touched_stays : (touched mapped : Bool) (n : ℕ) (s : State) → is_gone (cond touched (rechecked mapped n s) s) ≡ is_gone s
+touched_stays true mapped n s = recheck_stays mapped n s
+touched_stays false mapped n s = refl
+
+pub marked_stays : (marked : Bool) (v : Verdict) (s : State) → is_gone (cond marked (given_too v s) s) ≡ is_gone s
+marked_stays true v s = given_stays (alone v true) s
+marked_stays false v s = refl

@@ -15,7 +15,7 @@ use Rattle.watch_engine.specs.Seen.{EachSeen}
 use Rattle.watch_engine.specs.Follows.{AreHeld, IsHeldFrom, IsKnown, last_live_of, stale_since_of}
 use Rattle.watch_engine.proofs.Lists.{at_most, from_at_most, from_within, is_itself, of_same, within}
 use Rattle.watch_engine.proofs.Moments.{had_stale, held_stale, stale_some}
-use Rattle.watch_engine.proofs.Places.{touched}
+use Rattle.watch_engine.proofs.Placed.{touched}
 
 pub none_of : (o : Option ℕ) → is_some o ≡ false → o ≡ None
 none_of None e = refl
@@ -68,6 +68,7 @@ module _ (scheme : Scheme) (trace : Trace) where
   seen_known s good =
       let fine = fine_of scheme trace s.hart (last_translation s) s.last_live good in
       record {
+        there = refl;
         held = good.held;
         last = good.last;
         since = sym (not_stale_none scheme trace s.hart (last_translation s) fine);
@@ -76,6 +77,7 @@ module _ (scheme : Scheme) (trace : Trace) where
 
   touched_known : (s : LastLive) (i : Held) → s.last_live ≤ last_live_of scheme trace i.hart (translation_of i) → IsKnown scheme trace i → IsKnown scheme trace (touched s i)
   touched_known s i last known = record {
+    there = known.there;
     held = known.held;
     last = later-both i.last_live s.last_live _ known.last last;
     since = known.since;

@@ -28,6 +28,7 @@ use Rattle.watch_engine.specs.Standing.{AreRoots, IsLeftWithin, Stands}
 use Rattle.watch_engine.proofs.Leaving.{any_first, any_last, any_member, any_out, any_pushed, any_weaker, any_with, each_pushed, filter_each, filter_in, filter_out}
 use Rattle.watch_engine.proofs.Moments.{held_stale}
 use Rattle.watch_engine.proofs.Lists.{KeepsKey, filter_same, map_same, state_keeps}
+use Rattle.watch_engine.proofs.Rechecks.{current_again}
 use Rattle.watch_engine.proofs.Records.{all_pass, quiet, same, same_keeps, settled_after}
 use Rattle.watch_engine.proofs.SpaceRoots.{current_same, roots_current, roots_entered}
 use Rattle.watch_engine.proofs.Standings.{current_of, drop_end, live_from, more_records, since_now, to_live}
@@ -240,7 +241,7 @@ module _ {scheme : Scheme} {trace : Trace} {words : Tables} {since : ℕ → ℕ
           | false ↦ λ was. elim f as (λ f. found x ≡ f → with_state (cond f Current i.state) i ≡ After scheme newest trace i) [
             | true ↦ λ is.
                 let now : is_current scheme (newest ∷ trace) x ≡ true = current-more x ∙ (λ j. was j || is j) in
-                sym (ap (λ b. with_state (rechecked b n i.state) i) now) ∙ settled_after scheme trace (is_current scheme (newest ∷ trace) x) n i
+                sym (ap (λ b. with_state (rechecked b n i.state) i) now ∙ ap (λ s. with_state s i) (current_again n i.state known.there)) ∙ settled_after scheme trace (is_current scheme (newest ∷ trace) x) n i
             | false ↦ λ is. quiet scheme trace newest i refl (current-more x ∙ ((λ j. was j || is j) ∙ sym was)) known
           ]
         ] in

@@ -18,7 +18,7 @@ use Rattle.watch_engine.specs.State.{is_once, was_given}
 use Rattle.watch_engine.specs.Follows.{AreHeld, IsKnown, last_live_of}
 use Rattle.watch_engine.proofs.Lists.{KeepsKey, each_filter, each_map, knows_filter, knows_map, of_same}
 use Rattle.watch_engine.proofs.Moments.{held_stale, last_within, live_now, stale_some}
-use Rattle.watch_engine.proofs.Rechecks.{advanced, advanced_given, advanced_since}
+use Rattle.watch_engine.proofs.Rechecks.{advanced, advanced_given, advanced_since, advanced_stays}
 
 pub known_some : (scheme : Scheme) (trace : Trace) (i : Held) → IsKnown scheme trace i → is_some (stale_since i) ≡ is_stale scheme trace i.hart (translation_of i)
 known_some scheme trace i known = ap is_some known.since ∙ stale_some scheme trace i.hart (translation_of i)
@@ -60,9 +60,10 @@ module _ (scheme : Scheme) (newest : Record) (trace : Trace) where
       let more : Given = given_at h x in
       let stale : is_stale scheme (newest ∷ trace) h x ≡ not m = held_stale scheme (newest ∷ trace) h x held in
       record {
+        there = advanced_stays m n more i.state ∙ known.there;
         held = held;
         last = last_grows h x i.last_live known.last;
-        since = advanced_since m n more i.state ∙ (λ j. since_after (sym stale j) n (known.since j));
+        since = advanced_since m n more i.state known.there ∙ (λ j. since_after (sym stale j) n (known.since j));
         given = λ v once.
             let none : is_some (stale_since i) ≡ false → was_given v more ≡ false =
             λ fresh. at_once h x v once ∙ false_from_ne_true _ (λ t. true≢false (sym (verdict_stale scheme trace v newest h x t) ∙ (sym (known_some scheme trace i known) ∙ fresh))) in

@@ -7,43 +7,44 @@ use Rattle.std.proofs.lemmas.List.Folds.{list_any_more}
 use Rattle.pte.specs.declared.scheme.Scheme.{Scheme}
 use Rattle.watch_tables.specs.declared.way.Way.{Way}
 use Rattle.watch_engine.specs.declared.held.Held.{Held}
-use Rattle.watch_engine.specs.declared.slot.Slot.{Slot}
-use Rattle.watch_engine.specs.Slots.{has, turned}
+use Rattle.watch_engine.specs.Places.{has, is_there, turned}
 use Rattle.watch_engine.specs.Held.{translation_of, with_state}
-use Rattle.watch_engine.specs.State.{rechecked}
+use Rattle.watch_engine.specs.State.{is_gone, rechecked}
+use Rattle.watch_engine.specs.declared.state.State.{State}
+use Rattle.watch_engine.specs.declared.state.State.TheVariants.{Current, Gone, Stale}
 use Rattle.watch_engine.specs.Touched.{is_touched, is_touched_on, settled_if}
 use Rattle.watch_engine.proofs.Walks.{and_no}
 
-pub none_of : (slots : List Slot) → list_any (has (λ (i : Held). false)) slots ≡ false
+pub none_of : (places : List Held) → list_any (has (λ (i : Held). false)) places ≡ false
 none_of [] = refl
-none_of (s ∷ slots) = (λ j. and_no (not s.is_gone) j || list_any (has (λ (i : Held). false)) slots) ∙ none_of slots
+none_of (s ∷ places) = (λ j. and_no (is_there s) j || list_any (has (λ (i : Held). false)) places) ∙ none_of places
 
 none_of_either : (a b : Bool) → (a || b) ≡ false → (a ≡ false) × (b ≡ false)
 none_of_either true b e = absurd (true≢false e)
 none_of_either false b e = (refl, e)
 
-none_of_both : (p q r : Slot → Bool) → ((s : Slot) → r s ≡ (p s || q s)) → (slots : List Slot) → list_any p slots ≡ false → list_any q slots ≡ false → list_any r slots ≡ false
+none_of_both : (p q r : Held → Bool) → ((s : Held) → r s ≡ (p s || q s)) → (places : List Held) → list_any p places ≡ false → list_any q places ≡ false → list_any r places ≡ false
 none_of_both p q r is [] first second = refl
-none_of_both p q r is (s ∷ slots) first second =
+none_of_both p q r is (s ∷ places) first second =
     let a = none_of_either (p s) _ first in
     let b = none_of_either (q s) _ second in
-    ap (λ (t : Bool). t || list_any r slots) (is s ∙ (λ j. a.0 j || b.0 j)) ∙ none_of_both p q r is slots a.1 b.1
+    ap (λ (t : Bool). t || list_any r places) (is s ∙ (λ j. a.0 j || b.0 j)) ∙ none_of_both p q r is places a.1 b.1
 
 and_either : (a b c : Bool) → (a && (b || c)) ≡ ((a && b) || (a && c))
 and_either true b c = refl
 and_either false b c = refl
 
 -- with one more way that touches none
-pub no_more : (scheme : Scheme) (roots : List ℕ) (index : ℕ) (ways : List Way) (n : ℕ) (d : Way) (slots : List Slot) → n < length ways
-    → list_any (has (λ i. is_touched scheme roots index (take n ways) (translation_of i))) slots ≡ false
-    → list_any (has (λ i. is_touched_on scheme roots index (translation_of i) (get_or ways n d))) slots ≡ false
-    → list_any (has (λ i. is_touched scheme roots index (take (n + 1) ways) (translation_of i))) slots ≡ false
-no_more scheme roots index ways n d slots within before here =
+pub no_more : (scheme : Scheme) (roots : List ℕ) (index : ℕ) (ways : List Way) (n : ℕ) (d : Way) (places : List Held) → n < length ways
+    → list_any (has (λ i. is_touched scheme roots index (take n ways) (translation_of i))) places ≡ false
+    → list_any (has (λ i. is_touched_on scheme roots index (translation_of i) (get_or ways n d))) places ≡ false
+    → list_any (has (λ i. is_touched scheme roots index (take (n + 1) ways) (translation_of i))) places ≡ false
+no_more scheme roots index ways n d places within before here =
     none_of_both (has (λ i. is_touched scheme roots index (take n ways) (translation_of i))) (has (λ i. is_touched_on scheme roots index (translation_of i) (get_or ways n d)))
     (has (λ i. is_touched scheme roots index (take (n + 1) ways) (translation_of i)))
-    (λ s. ap (λ (b : Bool). not s.is_gone && b) (list_any_more (is_touched_on scheme roots index (translation_of s.item)) ways n d within)
-    ∙ and_either (not s.is_gone) (is_touched scheme roots index (take n ways) (translation_of s.item)) (is_touched_on scheme roots index (translation_of s.item) (get_or ways n d)))
-    slots before here
+    (λ s. ap (λ (b : Bool). is_there s && b) (list_any_more (is_touched_on scheme roots index (translation_of s)) ways n d within)
+    ∙ and_either (is_there s) (is_touched scheme roots index (take n ways) (translation_of s)) (is_touched_on scheme roots index (translation_of s) (get_or ways n d)))
+    places before here
 
 -- where nothing is touched, all is left as it is
 pub same_list : (touched current live : Held → Bool) (n : ℕ) (items : List Held) → list_any touched items ≡ false
@@ -57,17 +58,19 @@ same_list touched current live n (i ∷ items) none =
     ∙ ((λ j. with_state (cond (parts.0 j) (rechecked (current i) n i.state) i.state) i ∷ map f (filter p items)) ∙ ap (λ (l : List Held). i ∷ l) (same_list touched current live n items parts.1))
 
 -- each place is left as it is
-same_slot : (touched current live : Held → Bool) (n : ℕ) (i : Held) (b : Bool) → (not b && touched i) ≡ false
-    → turned (λ i. settled_if (touched i) (current i) n i) (λ i. not (not (touched i && live i))) (record { item = i; is_gone = b }) ≡ record { item = i; is_gone = b }
-same_slot touched current live n i true none = refl
-same_slot touched current live n i false none = λ j. record { item = with_state (cond (none j) (rechecked (current i) n i.state) i.state) i; is_gone = not (not (none j && live i)) }
+pub same_state : (touched current live : Bool) (n : ℕ) (s : State) → (not (is_gone s) && touched) ≡ false → cond (not (not (touched && live))) Gone (cond touched (rechecked current n s) s) ≡ s
+same_state false current live n s none = refl
+same_state true current live n Current none = cc
+same_state true current live n (Stale given since) none = cc
+same_state true current true n Gone none = refl
+same_state true current false n Gone none = refl
 
-pub same_slots : (touched current live : Held → Bool) (n : ℕ) (slots : List Slot) → list_any (has touched) slots ≡ false
-    → map (turned (λ i. settled_if (touched i) (current i) n i) (λ i. not (not (touched i && live i)))) slots ≡ slots
-same_slots touched current live n [] none = refl
-same_slots touched current live n (s ∷ slots) none =
-    let parts = none_of_either (has touched s) _ none in
-    λ j. same_slot touched current live n s.item s.is_gone parts.0 j ∷ same_slots touched current live n slots parts.1 j
+pub same_places : (touched current live : Held → Bool) (n : ℕ) (places : List Held) → list_any (has touched) places ≡ false
+    → map (turned (λ i. (settled_if (touched i) (current i) n i).state) (λ i. not (not (touched i && live i)))) places ≡ places
+same_places touched current live n [] none = refl
+same_places touched current live n (i ∷ places) none =
+    let parts = none_of_either (has touched i) _ none in
+    λ j. with_state (same_state (touched i) (current i) (live i) n i.state parts.0 j) i ∷ same_places touched current live n places parts.1 j
 
 not_not : (b : Bool) → not (not b) ≡ b
 not_not true = refl

@@ -5,19 +5,19 @@ use Rattle.std.specs.List.{list_any}
 use Rattle.std.proofs.lemmas.Bool.{cases_Bool, eq-eqb, eqb-false, eqb-true, false_from_ne_true, true≢false}
 use Rattle.std.proofs.lemmas.List.{get_or-map, length-map, length-take-le, take_all}
 use Rattle.std.proofs.lemmas.List.Folds.{list_any_more}
-use Rattle.watch_engine.specs.declared.slot.Slot.{Slot}
+use Rattle.watch_engine.specs.declared.held.Held.{Held}
 use Rattle.std.proofs.Math.Seq.{take-suc}
 use Rattle.watch_engine.specs.Chains.{IsFirst, IsNext, bucket_of, last_place}
-use Rattle.watch_engine.specs.Slots.{place_in}
+use Rattle.watch_engine.specs.Places.{place_in}
 use Rattle.watch_engine.proofs.LastPlaces.{last_below, last_here, last_passes, last_within}
 
-pub here : (f : Slot → ℕ) (k : ℕ) (items : List Slot) (n : ℕ) (d : Slot) → n < length items → (f (get_or items n d) == k) ≡ true → last_place k (take (suc n) (map f items)) ≡ suc n
+pub here : (f : Held → ℕ) (k : ℕ) (items : List Held) (n : ℕ) (d : Held) → n < length items → (f (get_or items n d) == k) ≡ true → last_place k (take (suc n) (map f items)) ≡ suc n
 here f k items n d h fits =
     let long : length (map f items) ≡ length items = length-map items f in
     let is : suc n - 1 ≡ n = omega arith in
     last_here k (map f items) (suc n) (omega arith) (omega arith) (ap (λ (m : ℕ). get_or (map f items) m 0) is ∙ (get_or-map f items n d 0 h ∙ eqb-true _ _ fits))
 
-pub below : (f : Slot → ℕ) (k : ℕ) (items : List Slot) (n : ℕ) (d : Slot) → n < length items → (f (get_or items n d) == k) ≡ false → last_place k (take (suc n) (map f items)) ≡ last_place k (take n (map f items))
+pub below : (f : Held → ℕ) (k : ℕ) (items : List Held) (n : ℕ) (d : Held) → n < length items → (f (get_or items n d) == k) ≡ false → last_place k (take (suc n) (map f items)) ≡ last_place k (take n (map f items))
 below f k items n d h differs =
     let long : length (map f items) ≡ length items = length-map items f in
     let is : suc n - 1 ≡ n = omega arith in
@@ -38,14 +38,14 @@ or_parts true b e = absurd (true≢false e)
 or_parts false b e = (refl, e)
 
 -- of the items with the key
-abbrev pub keyed : (Slot → ℕ) → ℕ → (Slot → Bool) → Slot → Bool
+abbrev pub keyed : (Held → ℕ) → ℕ → (Held → Bool) → Held → Bool
 keyed f k c i = (f i == k) && c i
 
-any_suc : (t : Slot → Bool) (items : List Slot) (n : ℕ) (d : Slot) → n < length items → list_any t (take (suc n) items) ≡ (list_any t (take n items) || t (get_or items n d))
+any_suc : (t : Held → Bool) (items : List Held) (n : ℕ) (d : Held) → n < length items → list_any t (take (suc n) items) ≡ (list_any t (take n items) || t (get_or items n d))
 any_suc t items n d h = ap (λ (m : ℕ). list_any t (take m items)) (sym (add-one n)) ∙ list_any_more t items n d h
 
 -- none after the last place of the key among the first n
-any_from : (f : Slot → ℕ) (k : ℕ) (c : Slot → Bool) (items : List Slot) (d : Slot) (n : ℕ) → n ≤ length items
+any_from : (f : Held → ℕ) (k : ℕ) (c : Held → Bool) (items : List Held) (d : Held) (n : ℕ) → n ≤ length items
     → list_any (keyed f k c) (take n items) ≡ list_any (keyed f k c) (take (last_place k (take n (map f items))) items)
 any_from f k c items d zero h = refl
 any_from f k c items d (suc n) h =
@@ -61,12 +61,12 @@ any_from f k c items d (suc n) h =
     ]
 
 -- a walk for the items with a key that a test passes is at a place: none is from there on
-pub record IsAt (f : Slot → ℕ) (k : ℕ) (c : Slot → Bool) (items : List Slot) (at : ℕ) : Type 0 where
+pub record IsAt (f : Held → ℕ) (k : ℕ) (c : Held → Bool) (items : List Held) (at : ℕ) : Type 0 where
   pub within : at ≤ length items
   pub key : 0 < at → get_or (map f items) (at - 1) 0 ≡ k
   pub any : list_any (keyed f k c) items ≡ list_any (keyed f k c) (take at items)
 
-at_last : (f : Slot → ℕ) (k : ℕ) (c : Slot → Bool) (items : List Slot) (d : Slot) (n : ℕ) → n ≤ length items
+at_last : (f : Held → ℕ) (k : ℕ) (c : Held → Bool) (items : List Held) (d : Held) (n : ℕ) → n ≤ length items
     → list_any (keyed f k c) items ≡ list_any (keyed f k c) (take n items)
     → (at : ℕ) → at ≡ last_place k (take n (map f items)) → IsAt f k c items at
 at_last f k c items d n h any at is =
@@ -78,14 +78,14 @@ at_last f k c items d n h any at is =
       any = any ∙ (any_from f k c items d n h ∙ ap (λ (m : ℕ). list_any (keyed f k c) (take m items)) (sym is));
     }
 
-pub start : (f : Slot → ℕ) (k : ℕ) (c : Slot → Bool) (items : List Slot) (at : ℕ) → at ≡ last_place k (map f items) → IsAt f k c items at
+pub start : (f : Held → ℕ) (k : ℕ) (c : Held → Bool) (items : List Held) (at : ℕ) → at ≡ last_place k (map f items) → IsAt f k c items at
 start f k c [] at is = record { within = omega arith; key = λ some. absurd (omega arith); any = ap (λ (m : ℕ). list_any (keyed f k c) (take m [])) (sym is) }
 start f k c (i ∷ items) at is =
     let long : length (map f (i ∷ items)) ≡ length (i ∷ items) = length-map (i ∷ items) f in
     at_last f k c (i ∷ items) i (length (i ∷ items)) (omega arith) (ap (list_any (keyed f k c)) (sym (take_all (length (i ∷ items)) (i ∷ items) (omega arith)))) at
     (is ∙ ap (last_place k) (sym (take_all (length (i ∷ items)) (map f (i ∷ items)) (omega arith))))
 
-pub next : (f : Slot → ℕ) (k : ℕ) (c : Slot → Bool) (items : List Slot) (at : ℕ) (d : Slot) → IsAt f k c items at → 0 < at → c (get_or items (at - 1) d) ≡ false
+pub next : (f : Held → ℕ) (k : ℕ) (c : Held → Bool) (items : List Held) (at : ℕ) (d : Held) → IsAt f k c items at → 0 < at → c (get_or items (at - 1) d) ≡ false
     → (older : ℕ) → older ≡ last_place (get_or (map f items) (at - 1) 0) (take (at - 1) (map f items)) → IsAt f k c items older
 next f k c items zero d w some misses older is = absurd (omega arith)
 next f k c items (suc n) d w some misses older is =
@@ -97,20 +97,20 @@ next f k c items (suc n) d w some misses older is =
     older
     (is ∙ ((λ j. last_place (w.key some j) (take (suc n - 1) (map f items))) ∙ ap (λ (m : ℕ). last_place k (take m (map f items))) back))
 
-keyed_here : (f : Slot → ℕ) (c : Slot → Bool) (i : Slot) (k : ℕ) → f i ≡ k → c i ≡ true → keyed f k c i ≡ true
+keyed_here : (f : Held → ℕ) (c : Held → Bool) (i : Held) (k : ℕ) → f i ≡ k → c i ≡ true → keyed f k c i ≡ true
 keyed_here f c i k e is = (λ j. eq-eqb _ _ e j && is j)
 
-pub smaller : (items : List Slot) (f : Slot → ℕ) (at older : ℕ) → 0 < at → at ≤ length items → older ≡ last_place (get_or (map f items) (at - 1) 0) (take (at - 1) (map f items)) → older < at
+pub smaller : (items : List Held) (f : Held → ℕ) (at older : ℕ) → 0 < at → at ≤ length items → older ≡ last_place (get_or (map f items) (at - 1) 0) (take (at - 1) (map f items)) → older < at
 smaller items f at older some h is =
     let long : length (map f items) ≡ length items = length-map items f in
     let low : last_place (get_or (map f items) (at - 1) 0) (take (at - 1) (map f items)) ≤ at - 1 = last_within (λ j. j == get_or (map f items) (at - 1) 0) (map f items) (at - 1) (omega arith) in
     omega arith
 
 -- what has one of some keys, or one more, where each of these has none that the test passes
-pub none_among : (f : Slot → ℕ) (c : Slot → Bool) (count : ℕ) (key : ℕ → ℕ) (large : ℕ) (items : List Slot)
+pub none_among : (f : Held → ℕ) (c : Held → Bool) (count : ℕ) (key : ℕ → ℕ) (large : ℕ) (items : List Held)
     → ((n : ℕ) → n < count → list_any (keyed f (key n) c) items ≡ false)
     → list_any (keyed f large c) items ≡ false
-    → ((i : Slot) → c i ≡ true → ((n : ℕ) × (n < count) × (f i ≡ key n)) ⊎ (f i ≡ large))
+    → ((i : Held) → c i ≡ true → ((n : ℕ) × (n < count) × (f i ≡ key n)) ⊎ (f i ≡ large))
     → list_any c items ≡ false
 none_among f c count key large [] each last are = refl
 none_among f c count key large (i ∷ items) each last are =
@@ -128,7 +128,7 @@ abbrev pub first_or : Option ℕ → Option ℕ → Option ℕ
 first_or None b = b
 first_or (Some n) b = Some n
 
-place_snoc : (t : Slot → Bool) (from : ℕ) (items : List Slot) (i : Slot) → place_in t from (items ++ i ∷ []) ≡ first_or (place_in t from items) (if t i then Some (from + length items) else None)
+place_snoc : (t : Held → Bool) (from : ℕ) (items : List Held) (i : Held) → place_in t from (items ++ i ∷ []) ≡ first_or (place_in t from items) (if t i then Some (from + length items) else None)
 place_snoc t from [] i = ap (λ (n : ℕ). if t i then Some n else None) (omega arith)
 place_snoc t from (j ∷ items) i =
     let go : (b : Bool) → cond b (Some from) (place_in t (from + 1) (items ++ i ∷ [])) ≡ first_or (cond b (Some from) (place_in t (from + 1) items)) (if t i then Some (from + length (j ∷ items)) else None) =
@@ -144,10 +144,10 @@ first_of_three None true n c = refl
 first_of_three None false n c = refl
 
 -- one more is looked at
-pub place_more : (t : Slot → Bool) (items : List Slot) (n : ℕ) (d : Slot) (after : Option ℕ) → n < length items
+pub place_more : (t : Held → Bool) (items : List Held) (n : ℕ) (d : Held) (after : Option ℕ) → n < length items
     → first_or (place_in t 0 (take (suc n) items)) after ≡ first_or (place_in t 0 (take n items)) (if t (get_or items n d) then Some n else after)
 place_more t items n d after h =
-    ap (λ (l : List Slot). first_or (place_in t 0 l) after) (take-suc items n d h)
+    ap (λ (l : List Held). first_or (place_in t 0 l) after) (take-suc items n d h)
     ∙ (ap (λ (o : Option ℕ). first_or o after) (place_snoc t 0 (take n items) (get_or items n d))
     ∙ (ap (λ (m : ℕ). first_or (first_or (place_in t 0 (take n items)) (if t (get_or items n d) then Some m else None)) after) (omega (arith, length-take-le n items (omega arith)))
     ∙ first_of_three (place_in t 0 (take n items)) (t (get_or items n d)) n after))
@@ -157,7 +157,7 @@ or_none_first None = refl
 or_none_first (Some n) = refl
 
 -- what a test passes has the key, so none is after its last place
-place_from : (f : Slot → ℕ) (k : ℕ) (t : Slot → Bool) → ((i : Slot) → t i ≡ true → f i ≡ k) → (items : List Slot) (d : Slot) (n : ℕ) → n ≤ length items
+place_from : (f : Held → ℕ) (k : ℕ) (t : Held → Bool) → ((i : Held) → t i ≡ true → f i ≡ k) → (items : List Held) (d : Held) (n : ℕ) → n ≤ length items
     → place_in t 0 (take n items) ≡ place_in t 0 (take (last_place k (take n (map f items))) items)
 place_from f k t goes items d zero h = refl
 place_from f k t goes items d (suc n) h =
@@ -174,7 +174,7 @@ place_from f k t goes items d (suc n) h =
     ]
 
 -- up to here and up to there are the same first ones, if the last place of the key is the same
-place_same : (f : Slot → ℕ) (k : ℕ) (t : Slot → Bool) → ((i : Slot) → t i ≡ true → f i ≡ k) → (items : List Slot) (n m : ℕ) → n ≤ length items → m ≤ length items
+place_same : (f : Held → ℕ) (k : ℕ) (t : Held → Bool) → ((i : Held) → t i ≡ true → f i ≡ k) → (items : List Held) (n m : ℕ) → n ≤ length items → m ≤ length items
     → last_place k (take n (map f items)) ≡ last_place k (take m (map f items)) → place_in t 0 (take n items) ≡ place_in t 0 (take m items)
 place_same f k t goes [] n m h low same = (λ j. place_in t 0 (take_all n [] (omega arith) j)) ∙ sym (λ j. place_in t 0 (take_all m [] (omega arith) j))
 place_same f k t goes (i ∷ items) n m h low same =
@@ -191,7 +191,7 @@ cond_none true n o e = absurd (no_some n e)
 cond_none false n o e = (refl, e)
 
 -- the first is here, if none is before
-place_at : (t : Slot → Bool) (from : ℕ) (items : List Slot) (n : ℕ) (d : Slot) → n < length items → place_in t from (take n items) ≡ None
+place_at : (t : Held → Bool) (from : ℕ) (items : List Held) (n : ℕ) (d : Held) → n < length items → place_in t from (take n items) ≡ None
     → t (get_or items n d) ≡ true → place_in t from items ≡ Some (from + n)
 place_at t from [] n d h none is = absurd (omega arith)
 place_at t from (i ∷ items) zero d h none is = ap (λ (b : Bool). cond b (Some from) (place_in t (from + 1) items)) is ∙ ap (λ (n : ℕ). Some n) (omega arith)
@@ -202,7 +202,7 @@ place_at t from (i ∷ items) (suc n) d h none is =
     ∙ ap (λ (n : ℕ). Some n) (omega arith))
 
 -- of fewer items none is either
-place_fewer : (t : Slot → Bool) (from : ℕ) (items : List Slot) (n m : ℕ) → n ≤ m → place_in t from (take m items) ≡ None → place_in t from (take n items) ≡ None
+place_fewer : (t : Held → Bool) (from : ℕ) (items : List Held) (n m : ℕ) → n ≤ m → place_in t from (take m items) ≡ None → place_in t from (take n items) ≡ None
 place_fewer t from items zero m h none = refl
 place_fewer t from [] (suc n) m h none = refl
 place_fewer t from (i ∷ items) (suc n) zero h none = absurd (omega arith)
@@ -212,13 +212,13 @@ place_fewer t from (i ∷ items) (suc n) (suc m) h none =
 
 -- a walk for the first item that a test passes, by turns from the front and along a chain of the key's bucket: none
 -- is before `front`, and from `at` on the first is `after`
-pub record Looks (buckets : ℕ) (f : Slot → ℕ) (k : ℕ) (t : Slot → Bool) (items : List Slot) (at front : ℕ) (after : Option ℕ) : Type 0 where
+pub record Looks (buckets : ℕ) (f : Held → ℕ) (k : ℕ) (t : Held → Bool) (items : List Held) (at front : ℕ) (after : Option ℕ) : Type 0 where
   pub within : at ≤ length items
   pub bucket : 0 < at → bucket_of buckets (get_or (map f items) (at - 1) 0) ≡ bucket_of buckets k
   pub is : place_in t 0 items ≡ first_or (place_in t 0 (take at items)) after
   pub none : place_in t 0 (take front items) ≡ None
 
-pub looks_first : (buckets : ℕ) (f : Slot → ℕ) (k : ℕ) (t : Slot → Bool) → ((i : Slot) → t i ≡ true → f i ≡ k) → (items : List Slot) (at : ℕ)
+pub looks_first : (buckets : ℕ) (f : Held → ℕ) (k : ℕ) (t : Held → Bool) → ((i : Held) → t i ≡ true → f i ≡ k) → (items : List Held) (at : ℕ)
     → IsFirst buckets (map f items) k at → Looks buckets f k t items at 0 None
 looks_first buckets f k t goes items at first =
     let long : length (map f items) ≡ length items = length-map items f in
@@ -233,7 +233,7 @@ looks_first buckets f k t goes items at first =
       none = refl;
     }
 
-pub looks_on : (buckets : ℕ) (f : Slot → ℕ) (k : ℕ) (t : Slot → Bool) → ((i : Slot) → t i ≡ true → f i ≡ k) → (items : List Slot) (at front : ℕ) (d e : Slot) (after : Option ℕ)
+pub looks_on : (buckets : ℕ) (f : Held → ℕ) (k : ℕ) (t : Held → Bool) → ((i : Held) → t i ≡ true → f i ≡ k) → (items : List Held) (at front : ℕ) (d e : Held) (after : Option ℕ)
     → Looks buckets f k t items at front after → front < at → t (get_or items front e) ≡ false
     → (older : ℕ) → IsNext buckets (map f items) at older
     → Looks buckets f k t items older (front + 1) (if t (get_or items (at - 1) d) then Some (at - 1) else after)
@@ -261,17 +261,17 @@ looks_on buckets f k t goes items (suc n) front d e after w some misses older ne
     }
 
 -- what is found at the front is the first
-pub looks_here : (buckets : ℕ) (f : Slot → ℕ) (k : ℕ) (t : Slot → Bool) (items : List Slot) (at front : ℕ) (d : Slot) (after : Option ℕ)
+pub looks_here : (buckets : ℕ) (f : Held → ℕ) (k : ℕ) (t : Held → Bool) (items : List Held) (at front : ℕ) (d : Held) (after : Option ℕ)
     → Looks buckets f k t items at front after → front < at → t (get_or items front d) ≡ true → place_in t 0 items ≡ Some front
 looks_here buckets f k t items at front d after w some is = place_at t 0 items front d (omega (arith, w.within)) w.none is ∙ ap (λ (n : ℕ). Some n) (omega arith)
 
 -- where both ways meet, what was found along the chain is the first
-pub looks_done : (buckets : ℕ) (f : Slot → ℕ) (k : ℕ) (t : Slot → Bool) (items : List Slot) (at front : ℕ) (after : Option ℕ)
+pub looks_done : (buckets : ℕ) (f : Held → ℕ) (k : ℕ) (t : Held → Bool) (items : List Held) (at front : ℕ) (after : Option ℕ)
     → Looks buckets f k t items at front after → at ≤ front → place_in t 0 items ≡ after
 looks_done buckets f k t items at front after w met = w.is ∙ ap (λ (o : Option ℕ). first_or o after) (place_fewer t 0 items at front met w.none)
 
 -- of fewer items none passes either
-pub any_fewer : (t : Slot → Bool) (items : List Slot) (n m : ℕ) → n ≤ m → list_any t (take m items) ≡ false → list_any t (take n items) ≡ false
+pub any_fewer : (t : Held → Bool) (items : List Held) (n m : ℕ) → n ≤ m → list_any t (take m items) ≡ false → list_any t (take n items) ≡ false
 any_fewer t items zero m h none = refl
 any_fewer t [] (suc n) m h none = refl
 any_fewer t (i ∷ items) (suc n) zero h none = absurd (omega arith)
@@ -286,12 +286,12 @@ below_or_is n m h = elim (cases_Bool (n == m)) [
 ]
 
 -- a walk for the oldest item with a key that a test passes is at a place, and has found what is from there on
-pub record Seeks (f : Slot → ℕ) (k : ℕ) (c : Slot → Bool) (items : List Slot) (at first : ℕ) : Type 0 where
+pub record Seeks (f : Held → ℕ) (k : ℕ) (c : Held → Bool) (items : List Held) (at first : ℕ) : Type 0 where
   pub walk : IsAt f k (λ _. false) items at
   pub within : first ≤ length items
   pub any : list_any (keyed f k c) (take first items) ≡ list_any (keyed f k c) (take at items)
 
-pub seeks_first : (f : Slot → ℕ) (k : ℕ) (c : Slot → Bool) (items : List Slot) (at first : ℕ) → first ≡ length items → at ≡ last_place k (map f items) → Seeks f k c items at first
+pub seeks_first : (f : Held → ℕ) (k : ℕ) (c : Held → Bool) (items : List Held) (at first : ℕ) → first ≡ length items → at ≡ last_place k (map f items) → Seeks f k c items at first
 seeks_first f k c items at first all is =
     record {
       walk = start f k (λ _. false) items at is;
@@ -299,7 +299,7 @@ seeks_first f k c items at first all is =
       any = ap (list_any (keyed f k c)) (take_all first items (omega arith)) ∙ (start f k c items at is).any;
     }
 
-pub seeks_on : (f : Slot → ℕ) (k : ℕ) (c : Slot → Bool) (items : List Slot) (at : ℕ) (d : Slot) (first : ℕ) → Seeks f k c items at first → 0 < at
+pub seeks_on : (f : Held → ℕ) (k : ℕ) (c : Held → Bool) (items : List Held) (at : ℕ) (d : Held) (first : ℕ) → Seeks f k c items at first → 0 < at
     → (older : ℕ) → older ≡ last_place (get_or (map f items) (at - 1) 0) (take (at - 1) (map f items))
     → Seeks f k c items older (if c (get_or items (at - 1) d) then at - 1 else first)
 seeks_on f k c items zero d first w some older is = absurd (omega arith)

@@ -8,7 +8,7 @@ use Rattle.watch.specs.Holding.{Translation}
 use Rattle.watch.specs.ComputedTraces.{has_held, is_current, is_held, is_live, is_stale}
 use Rattle.watch_engine.specs.declared.held.Held.{Held}
 use Rattle.watch_engine.specs.Held.{Each, IsNormalized, is_given, knows, since_after, stale_since, translation_of}
-use Rattle.watch_engine.specs.State.{is_once}
+use Rattle.watch_engine.specs.State.{is_gone, is_once}
 
 -- the number of records after which it was live last
 abbrev pub last_live_of : Scheme → Trace → ℕ → Translation → ℕ
@@ -25,8 +25,9 @@ stale_since_of scheme (newest ∷ trace) hart x =
     since_after (is_stale scheme (newest ∷ trace) hart x) (length (newest ∷ trace))
     (stale_since_of scheme trace hart x)
 
--- what is known of a translation is so
+-- what is known of a translation is so, and it has not gone
 pub record IsKnown (scheme : Scheme) (trace : Trace) (i : Held) : Type 0 where
+  pub there : is_gone i.state ≡ false
   pub held : is_held scheme trace i.hart (translation_of i) ≡ true
   pub last : i.last_live ≤ last_live_of scheme trace i.hart (translation_of i)
   pub since : stale_since i ≡ stale_since_of scheme trace i.hart (translation_of i)

@@ -19,7 +19,7 @@ pub mod Watching
 pub mod Keys
 pub mod Concerns
 pub mod Filling
-pub mod Slots
+pub mod Places
 pub mod Shared
 pub mod Unseen
 pub mod PageRuns

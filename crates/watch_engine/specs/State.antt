@@ -1,11 +1,11 @@
 -- The state of a translation that a hart may hold: whether the tables have it and, where they do not,
--- since when, and which verdicts it has had since then.
-use Rattle.std.specs.Prelude.{ℕ, Bool, true, false, ◌||◌, Option, Some, None}
+-- since when, and which verdicts it has had since then; or that it has gone.
+use Rattle.std.specs.Prelude.{ℕ, Bool, true, false, ◌||◌, Option, Some, None, if◌then◌else◌}
 use Rattle.watch.specs.declared.trace.Verdict.{Verdict}
 use Rattle.watch.specs.declared.trace.Verdict.TheVariants.{Free, Reuse, Claimed, Used}
 use Rattle.watch_engine.specs.declared.state.Given.{Given}
 use Rattle.watch_engine.specs.declared.state.State.{State}
-use Rattle.watch_engine.specs.declared.state.State.TheVariants.{Current, Stale}
+use Rattle.watch_engine.specs.declared.state.State.TheVariants.{Current, Gone, Stale}
 
 -- the verdicts that are given once, of which there are flags; `Used` is given at each use
 abbrev pub is_once : Verdict → Bool
@@ -39,26 +39,36 @@ joint a b =
       claimed = a.claimed || b.claimed;
     }
 
+-- it is held no more
+abbrev pub is_gone : State → Bool
+is_gone Current = false
+is_gone (Stale given since) = false
+is_gone Gone = true
+
 -- since when it is stale
 abbrev pub since_of : State → Option ℕ
 since_of Current = None
 since_of (Stale given since) = Some since
+since_of Gone = None
 
 -- it has had the verdict since then
 abbrev pub has_had : Verdict → State → Bool
 has_had verdict Current = false
 has_had verdict (Stale given since) = was_given verdict given
+has_had verdict Gone = false
 
--- after a record that may change what the tables have, by whether they have it now
+-- after a record that may change what the tables have, by whether they have it now; what has gone
+-- stays so
 abbrev pub rechecked : Bool → ℕ → State → State
-rechecked true now s = Current
-rechecked false now Current = Stale none_given now
-rechecked false now (Stale given since) = Stale given since
+rechecked mapped now Current = if mapped then Current else Stale none_given now
+rechecked mapped now (Stale given since) = if mapped then Current else Stale given since
+rechecked mapped now Gone = Gone
 
 -- after verdicts of it: only what is stale can have them
 abbrev pub given_all : Given → State → State
 given_all more Current = Current
 given_all more (Stale given since) = Stale (joint more given) since
+given_all more Gone = Gone
 
 abbrev pub given_too : Verdict → State → State
 given_too verdict s = given_all (alone verdict true) s

@@ -3,6 +3,7 @@
 ghost use Rattle.std.specs.Prelude.{ℕ, Bool, ◌≡◌, ◌↔◌, ◌++◌, ◌∷◌, [], map, Option, OnOk, OnErr, IfOk, Contains, IsTrue};
 ghost use Rattle.watch_tables.specs.Ways.{later};
 ghost use Rattle.watch_engine.specs.Held.{held_from, is_of, is_same_entry, last_live_in, last_translation};
+ghost use Rattle.watch_engine.specs.Places.{has};
 
 use crate::state::State;
 use tlb::Entry;
@@ -88,10 +89,15 @@ impl Held {
         }
     }
 
-    pub(crate) fn is_of(&self, live: &LastLive) -> bool
-        ensures { result ≡ is_of live.now.hart (last_translation live.now) self.now }
+    /// Whether it is there, and the translation that was live.
+    #[inline]
+    pub(crate) fn is_of_live(&self, live: &LastLive) -> bool
+        ensures { result ≡ has (is_of live.now.hart (last_translation live.now)) self.now }
     {
-        self.hart == live.hart && self.root == live.root && is_same_entry(&self.entry, &live.entry)
+        !self.state.is_gone()
+            && self.hart == live.hart
+            && self.root == live.root
+            && is_same_entry(&self.entry, &live.entry)
     }
 
     /// With a moment at which it was live.

@@ -7,15 +7,16 @@ ghost use Rattle.watch_engine.specs.Concerns.{concerns};
 ghost use Rattle.watch_engine.specs.declared.held.Held.{Held as HeldOf};
 ghost use Rattle.watch_engine.specs.declared.keys.By.{By as ByOf};
 ghost use Rattle.watch_engine.specs.declared.keys.By.TheVariants.{Frame, Page, Root};
+ghost use Rattle.watch_engine.specs.Held.{held_from, with_state};
 ghost use Rattle.watch_engine.specs.Keys.{AreSmall, BeginsWith, IsAmong, key_of};
-ghost use Rattle.watch_engine.specs.Slots.{AreFewGone, IsWithout, count_gone, has, items_of, key_in};
+ghost use Rattle.watch_engine.specs.Places.{AreFewGone, IsWithout, count_gone, has, items_of};
 
 use crate::chains::Chains;
 use crate::concern::Concern;
-use crate::held::Held;
+use crate::held::{Held, LastLive};
 use crate::keys::{By, Keys};
-use crate::slot::Slot;
-use crate::slots::{add_empty, drop_each, drop_with_keys, end_of};
+use crate::places::{add_empty, drop_each, drop_with_keys, end_of};
+use crate::state_change::{StateChange, change_each};
 use std::alloc::{AllocError, Global};
 
 /// How many empty places are let be, however few items there are.
@@ -33,17 +34,17 @@ const CHAIN_SHARE: usize = 32;
 /// is the items that are there, in their order.
 #[derive(Drop)]
 pub(crate) struct HeldList {
-    pub(crate) slots: Vec<Slot>,
+    pub(crate) places: Vec<Held>,
     /// How often a place was emptied or found empty since all were closed up, which so many steps pay:
     /// no more than there are places.
     pub(crate) empty: usize,
     pub(crate) pages: Chains,
     pub(crate) frames: Chains,
     pub(crate) roots: Chains,
-    ghost by_page: { pages.keys.items ≡ map (key_in Page) slots.items },
-    ghost by_frame: { frames.keys.items ≡ map (key_in Frame) slots.items },
-    ghost by_root: { roots.keys.items ≡ map (key_in Root) slots.items },
-    ghost counted: { count_gone slots.items ≤ empty },
+    ghost by_page: { pages.keys.items ≡ map (key_of Page) places.items },
+    ghost by_frame: { frames.keys.items ≡ map (key_of Frame) places.items },
+    ghost by_root: { roots.keys.items ≡ map (key_of Root) places.items },
+    ghost counted: { count_gone places.items ≤ empty },
 }
 
 // Adds the keys of an item. At `Err` some of them are there.
@@ -73,30 +74,30 @@ fn relink_all(
     pages: &mut Chains,
     frames: &mut Chains,
     roots: &mut Chains,
-    slots: &[Slot],
+    places: &[Held],
     first: usize,
 )
-    requires first { first ≤ length slots.now }
-    requires fewer_pages { length slots.now ≤ length pages.old.keys.items }
-    requires fewer_frames { length slots.now ≤ length frames.old.keys.items }
-    requires fewer_roots { length slots.now ≤ length roots.old.keys.items }
-    requires same_pages { take first pages.old.keys.items ≡ map (key_in Page) (take first slots.now) }
+    requires first { first ≤ length places.now }
+    requires fewer_pages { length places.now ≤ length pages.old.keys.items }
+    requires fewer_frames { length places.now ≤ length frames.old.keys.items }
+    requires fewer_roots { length places.now ≤ length roots.old.keys.items }
+    requires same_pages { take first pages.old.keys.items ≡ map (key_of Page) (take first places.now) }
     requires same_frames { take first frames.old.keys.items
-        ≡ map (key_in Frame) (take first slots.now) }
-    requires same_roots { take first roots.old.keys.items ≡ map (key_in Root) (take first slots.now) }
-    ensures pages { pages.new.keys.items ≡ map (key_in Page) slots.now }
-    ensures frames { frames.new.keys.items ≡ map (key_in Frame) slots.now }
-    ensures roots { roots.new.keys.items ≡ map (key_in Root) slots.now }
+        ≡ map (key_of Frame) (take first places.now) }
+    requires same_roots { take first roots.old.keys.items ≡ map (key_of Root) (take first places.now) }
+    ensures pages { pages.new.keys.items ≡ map (key_of Page) places.now }
+    ensures frames { frames.new.keys.items ≡ map (key_of Frame) places.now }
+    ensures roots { roots.new.keys.items ≡ map (key_of Root) places.now }
 {
-    pages.relink(slots, By::Page, first);
-    frames.relink(slots, By::Frame, first);
-    roots.relink(slots, By::Root, first);
+    pages.relink(places, By::Page, first);
+    frames.relink(places, By::Frame, first);
+    roots.relink(places, By::Root, first);
 }
 
 // Drops the items with one of the keys that the record concerns. How many places are empty then of those
 // that were looked at. `None` once the steps are used up, and then some may still be there.
 fn drop_by(
-    slots: &mut [Slot],
+    places: &mut [Held],
     pages: &Chains,
     frames: &Chains,
     roots: &Chains,
@@ -105,20 +106,20 @@ fn drop_by(
     steps: &mut usize,
 ) -> Option<usize>
     requires small { AreSmall keys.now }
-    requires pages { pages.now.keys.items ≡ map (key_in Page) slots.old }
-    requires frames { frames.now.keys.items ≡ map (key_in Frame) slots.old }
-    requires roots { roots.now.keys.items ≡ map (key_in Root) slots.old }
-    ensures without { IsWithout (concerns concern.now) slots.old slots.new }
+    requires pages { pages.now.keys.items ≡ map (key_of Page) places.old }
+    requires frames { frames.now.keys.items ≡ map (key_of Frame) places.old }
+    requires roots { roots.now.keys.items ≡ map (key_of Root) places.old }
+    ensures without { IsWithout (concerns concern.now) places.old places.new }
     ensures left { ForSome result (λ _. ((i : HeldOf) → concerns concern.now i ≡ true
-        → IsAmong keys.now (key_of keys.now.by i)) → items_of slots.new
-        ≡ filter (λ i. not (concerns concern.now i)) (items_of slots.old)) }
+        → IsAmong keys.now (key_of keys.now.by i)) → items_of places.new
+        ≡ filter (λ i. not (concerns concern.now i)) (items_of places.old)) }
     ensures gone { ForSome result (λ empty.
-        count_gone slots.new ≤ count_gone slots.old + empty) }
+        count_gone places.new ≤ count_gone places.old + empty) }
 {
     match keys.by {
-        By::Page => drop_with_keys(slots, pages, keys, concern, steps),
-        By::Frame => drop_with_keys(slots, frames, keys, concern, steps),
-        By::Root => drop_with_keys(slots, roots, keys, concern, steps),
+        By::Page => drop_with_keys(places, pages, keys, concern, steps),
+        By::Frame => drop_with_keys(places, frames, keys, concern, steps),
+        By::Root => drop_with_keys(places, roots, keys, concern, steps),
     }
 }
 
@@ -126,7 +127,7 @@ fn drop_by(
 // or over the whole list once the steps are used up. How many places are empty then of those that were
 // looked at.
 fn drop_by_or_each(
-    slots: &mut [Slot],
+    places: &mut [Held],
     pages: &Chains,
     frames: &Chains,
     roots: &Chains,
@@ -135,18 +136,18 @@ fn drop_by_or_each(
     steps: &mut usize,
 ) -> usize
     requires small { AreSmall keys.now }
-    requires pages { pages.now.keys.items ≡ map (key_in Page) slots.old }
-    requires frames { frames.now.keys.items ≡ map (key_in Frame) slots.old }
-    requires roots { roots.now.keys.items ≡ map (key_in Root) slots.old }
+    requires pages { pages.now.keys.items ≡ map (key_of Page) places.old }
+    requires frames { frames.now.keys.items ≡ map (key_of Frame) places.old }
+    requires roots { roots.now.keys.items ≡ map (key_of Root) places.old }
     requires all { (i : HeldOf) → concerns concern.now i ≡ true
         → IsAmong keys.now (key_of keys.now.by i) }
-    ensures left { items_of slots.new
-        ≡ filter (λ i. not (concerns concern.now i)) (items_of slots.old) }
-    ensures keys { (by : ByOf) → map (key_in by) slots.new ≡ map (key_in by) slots.old }
-    ensures gone { count_gone slots.new ≤ count_gone slots.old + result }
+    ensures left { items_of places.new
+        ≡ filter (λ i. not (concerns concern.now i)) (items_of places.old) }
+    ensures keys { (by : ByOf) → map (key_of by) places.new ≡ map (key_of by) places.old }
+    ensures gone { count_gone places.new ≤ count_gone places.old + result }
 {
-    let Some(empty) = drop_by(slots, pages, frames, roots, keys, concern, steps) else {
-        return drop_each(slots, concern);
+    let Some(empty) = drop_by(places, pages, frames, roots, keys, concern, steps) else {
+        return drop_each(places, concern);
     };
     empty
 }
@@ -154,10 +155,10 @@ fn drop_by_or_each(
 impl HeldList {
     /// Nothing.
     pub(crate) fn new(alloc: Global) -> HeldList
-        ensures { items_of result.slots.items ≡ [] }
+        ensures { items_of result.places.items ≡ [] }
     {
         HeldList {
-            slots: Vec::new(alloc),
+            places: Vec::new(alloc),
             empty: 0,
             pages: Chains::new(alloc),
             frames: Chains::new(alloc),
@@ -166,14 +167,14 @@ impl HeldList {
     }
 
     /// The places of items.
-    pub(crate) fn as_slice(&self) -> &[Slot]
-        ensures value { result.now ≡ self.now.slots.items }
+    pub(crate) fn as_slice(&self) -> &[Held]
+        ensures value { result.now ≡ self.now.places.items }
     {
-        self.slots.as_slice()
+        self.places.as_slice()
     }
 
     fn chains(&self, by: By) -> &Chains
-        ensures { result.now.keys.items ≡ map (key_in by) self.now.slots.items }
+        ensures { result.now.keys.items ≡ map (key_of by) self.now.places.items }
     {
         match by {
             By::Page => &self.pages,
@@ -186,24 +187,24 @@ impl HeldList {
     /// along the list: with so few, a look that gives up adds about a third to the scan of the list that
     /// takes its place.
     pub(crate) fn chain_steps(&self) -> usize {
-        FEW_STEPS + self.slots.len() / CHAIN_SHARE
+        FEW_STEPS + self.places.len() / CHAIN_SHARE
     }
 
     // How many places stand before the oldest item that has the key and that the record concerns: none
     // once the steps are used up.
     fn first_with(&self, by: By, key: u64, concern: &Concern, steps: &mut usize) -> usize
-        ensures none { list_any (λ s. (key_in by s == key) && has (concerns concern.now) s)
-            (take result self.now.slots.items) ≡ false }
-        ensures within { result ≤ length self.now.slots.items }
+        ensures none { list_any (λ i. (key_of by i == key) && has (concerns concern.now) i)
+            (take result self.now.places.items) ≡ false }
+        ensures within { result ≤ length self.now.places.items }
     {
         let chains = self.chains(by);
-        let slots = self.slots.as_slice();
-        let mut first = slots.len();
+        let places = self.places.as_slice();
+        let mut first = places.len();
         let Some(mut at) = chains.newest(key, steps) else {
             return 0;
         };
         while at > 0 {
-            if slots[at - 1].is_of(concern) {
+            if places[at - 1].is_of(concern) {
                 first = at - 1;
             }
             let Some(older) = chains.before(at, steps) else {
@@ -219,8 +220,8 @@ impl HeldList {
         requires { AreSmall keys.now }
         ensures none { ((i : HeldOf) → concerns concern.now i ≡ true
             → IsAmong keys.now (key_of keys.now.by i))
-            → list_any (has (concerns concern.now)) (take result self.now.slots.items) ≡ false }
-        ensures within { result ≤ length self.now.slots.items }
+            → list_any (has (concerns concern.now)) (take result self.now.places.items) ≡ false }
+        ensures within { result ≤ length self.now.places.items }
     {
         let mut first = self.first_with(keys.by, keys.limit, concern, steps);
         for offset in 0..keys.len() {
@@ -235,9 +236,9 @@ impl HeldList {
     /// A number of places, where no item is that the record concerns: all of them if it concerns none
     /// and few keys tell so in these steps.
     pub(crate) fn first_of(&self, concern: &Concern, steps: &mut usize) -> usize
-        ensures none { list_any (has (concerns concern.now)) (take result self.now.slots.items)
+        ensures none { list_any (has (concerns concern.now)) (take result self.now.places.items)
             ≡ false }
-        ensures within { result ≤ length self.now.slots.items }
+        ensures within { result ≤ length self.now.places.items }
     {
         match concern.keys() {
             None => 0,
@@ -248,29 +249,30 @@ impl HeldList {
     /// Whether the record may concern some item: it does not where the answer is `false`.
     pub(crate) fn may_concern(&self, concern: &Concern) -> bool
         ensures { result ≡ false
-            → list_any (concerns concern.now) (items_of self.now.slots.items) ≡ false }
+            → list_any (concerns concern.now) (items_of self.now.places.items) ≡ false }
     {
         let mut steps = self.chain_steps();
-        self.first_of(concern, &mut steps) < self.slots.len()
+        self.first_of(concern, &mut steps) < self.places.len()
     }
 
-    // With one more item. At `Err` nothing changed.
-    fn try_push(&mut self, item: &Held) -> Result<(), AllocError>
-        ensures ok { OnOk result (items_of self.new.slots.items
-            ≡ items_of self.old.slots.items ++ item.now ∷ []) }
-        ensures err { OnErr result (items_of self.new.slots.items
-            ≡ items_of self.old.slots.items) }
+    // With a translation that was live, as one more item. At `Err` nothing changed.
+    fn try_push(&mut self, live: &LastLive) -> Result<(), AllocError>
+        ensures ok { OnOk result (items_of self.new.places.items
+            ≡ items_of self.old.places.items ++ held_from live.now ∷ []) }
+        ensures err { OnErr result (items_of self.new.places.items
+            ≡ items_of self.old.places.items) }
     {
-        let count = self.slots.len();
-        let keyed = push_keys(&mut self.pages, &mut self.frames, &mut self.roots, item);
-        if keyed.is_ok() && self.slots.push(Slot::new(*item)).is_ok() {
+        let item = Held::from_live(live);
+        let count = self.places.len();
+        let keyed = push_keys(&mut self.pages, &mut self.frames, &mut self.roots, &item);
+        if keyed.is_ok() && self.places.push(item).is_ok() {
             return Ok(());
         }
         relink_all(
             &mut self.pages,
             &mut self.frames,
             &mut self.roots,
-            self.slots.as_slice(),
+            self.places.as_slice(),
             count,
         );
         Err(AllocError)
@@ -278,19 +280,19 @@ impl HeldList {
 
     // Without the empty places behind the last item.
     fn cut_end(&mut self)
-        ensures { items_of self.new.slots.items ≡ items_of self.old.slots.items }
+        ensures { items_of self.new.places.items ≡ items_of self.old.places.items }
     {
-        let count = self.slots.len();
-        let end = end_of(self.slots.as_slice());
+        let count = self.places.len();
+        let end = end_of(self.places.as_slice());
         if end == count {
             return;
         }
-        self.slots.truncate(end);
+        self.places.truncate(end);
         relink_all(
             &mut self.pages,
             &mut self.frames,
             &mut self.roots,
-            self.slots.as_slice(),
+            self.places.as_slice(),
             end,
         );
         self.empty = self.empty.saturating_sub(count - end);
@@ -298,46 +300,46 @@ impl HeldList {
 
     // Without the empty places.
     fn close_up(&mut self)
-        ensures same { items_of self.new.slots.items ≡ items_of self.old.slots.items }
-        ensures none { count_gone self.new.slots.items ≡ 0 }
+        ensures same { items_of self.new.places.items ≡ items_of self.old.places.items }
+        ensures none { count_gone self.new.places.items ≡ 0 }
     {
-        self.slots.retain(|slot| !slot.is_gone);
+        self.places.retain(|item| !item.state.is_gone());
         relink_all(
             &mut self.pages,
             &mut self.frames,
             &mut self.roots,
-            self.slots.as_slice(),
+            self.places.as_slice(),
             0,
         );
         self.empty = 0;
     }
 
-    /// With one more item. At `Err` nothing changed: empty places are closed up before memory is said to
-    /// be short.
-    pub(crate) fn push(&mut self, item: Held) -> Result<(), AllocError>
-        ensures ok { OnOk result (items_of self.new.slots.items
-            ≡ items_of self.old.slots.items ++ item ∷ []) }
-        ensures err { OnErr result (items_of self.new.slots.items
-            ≡ items_of self.old.slots.items) }
+    /// With a translation that was live, as one more item. At `Err` nothing changed: empty places are
+    /// closed up before memory is said to be short.
+    pub(crate) fn push(&mut self, live: &LastLive) -> Result<(), AllocError>
+        ensures ok { OnOk result (items_of self.new.places.items
+            ≡ items_of self.old.places.items ++ held_from live.now ∷ []) }
+        ensures err { OnErr result (items_of self.new.places.items
+            ≡ items_of self.old.places.items) }
     {
-        if self.try_push(&item).is_ok() {
+        if self.try_push(live).is_ok() {
             return Ok(());
         }
         if self.empty == 0 {
             return Err(AllocError);
         }
         self.close_up();
-        self.try_push(&item)
+        self.try_push(live)
     }
 
     /// Closes up where that is worth its cost, by how many places were emptied or found empty. It needs no
     /// memory.
     pub(crate) fn tidy(&mut self)
-        ensures same { items_of self.new.slots.items ≡ items_of self.old.slots.items }
-        ensures few { AreFewGone self.new.slots.items }
+        ensures same { items_of self.new.places.items ≡ items_of self.old.places.items }
+        ensures few { AreFewGone self.new.places.items }
     {
         self.cut_end();
-        if self.empty > FEW_EMPTY && self.empty > self.slots.len() / 2 {
+        if self.empty > FEW_EMPTY && self.empty > self.places.len() / 2 {
             self.close_up();
         }
     }
@@ -347,13 +349,13 @@ impl HeldList {
         requires small { AreSmall keys.now }
         requires all { (i : HeldOf) → concerns concern.now i ≡ true
             → IsAmong keys.now (key_of keys.now.by i) }
-        ensures left { items_of self.new.slots.items
-            ≡ filter (λ i. not (concerns concern.now i)) (items_of self.old.slots.items) }
-        ensures few { AreFewGone self.new.slots.items }
+        ensures left { items_of self.new.places.items
+            ≡ filter (λ i. not (concerns concern.now i)) (items_of self.old.places.items) }
+        ensures few { AreFewGone self.new.places.items }
     {
         let mut steps = self.chain_steps();
         let empty = drop_by_or_each(
-            self.slots.as_mut_slice(),
+            self.places.as_mut_slice(),
             &self.pages,
             &self.frames,
             &self.roots,
@@ -361,26 +363,34 @@ impl HeldList {
             concern,
             &mut steps,
         );
-        self.empty = add_empty(self.slots.as_slice(), self.empty, empty);
+        self.empty = add_empty(self.places.as_slice(), self.empty, empty);
         self.tidy();
     }
 
     // The same, where all items are looked at.
     fn drop_all(&mut self, concern: &Concern)
-        ensures left { items_of self.new.slots.items
-            ≡ filter (λ i. not (concerns concern.now i)) (items_of self.old.slots.items) }
-        ensures few { AreFewGone self.new.slots.items }
+        ensures left { items_of self.new.places.items
+            ≡ filter (λ i. not (concerns concern.now i)) (items_of self.old.places.items) }
+        ensures few { AreFewGone self.new.places.items }
     {
-        let empty = drop_each(self.slots.as_mut_slice(), concern);
-        self.empty = add_empty(self.slots.as_slice(), self.empty, empty);
+        let empty = drop_each(self.places.as_mut_slice(), concern);
+        self.empty = add_empty(self.places.as_slice(), self.empty, empty);
         self.tidy();
+    }
+
+    /// With the state of each item changed.
+    pub(crate) fn change_all<C: StateChange>(&mut self, change: &C)
+        ensures { items_of self.new.places.items
+            ≡ map (λ i. with_state (C.after change.now i) i) (items_of self.old.places.items) }
+    {
+        change_each(self.places.as_mut_slice(), change);
     }
 
     /// Without the items that the record concerns.
     pub(crate) fn drop_of(&mut self, concern: &Concern)
-        ensures left { items_of self.new.slots.items
-            ≡ filter (λ i. not (concerns concern.now i)) (items_of self.old.slots.items) }
-        ensures few { AreFewGone self.new.slots.items }
+        ensures left { items_of self.new.places.items
+            ≡ filter (λ i. not (concerns concern.now i)) (items_of self.old.places.items) }
+        ensures few { AreFewGone self.new.places.items }
     {
         match concern.keys() {
             None => self.drop_all(concern),

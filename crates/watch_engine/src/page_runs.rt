@@ -4,14 +4,13 @@
 ghost use Rattle.std.specs.Prelude.{ℕ, ◌≡◌, ◌+◌, ◌<◌, ◌≤◌, ◌||◌, IfOk, IsTrue, OnErr, OnOk, get_or, length, take, true};
 ghost use Rattle.watch_engine.specs.Held.{remembered, remembered_all};
 ghost use Rattle.watch_engine.specs.PageRuns.{AreHartsOf, AreRememberedUpTo, is_on_page, is_that_page};
-ghost use Rattle.watch_engine.specs.Slots.{has, items_of};
+ghost use Rattle.watch_engine.specs.Places.{has, items_of};
 
 use crate::held::{Held, LastLive};
 use crate::held_list::HeldList;
 use crate::keys::page_key;
 use crate::list::remember;
 use crate::shared::HARTS;
-use crate::slot::Slot;
 use pte::Page;
 use std::alloc::AllocError;
 
@@ -29,27 +28,27 @@ fn is_that_page(page: &Page, other: &Page) -> bool
 }
 
 // With the hart of the item, if it is there and of the page.
-fn add_hart_of(harts: &mut [bool; HARTS], page: &Page, slot: &Slot)
+fn add_hart_of(harts: &mut [bool; HARTS], page: &Page, item: &Held)
     ensures { (hart : ℕ) → get_or harts.new hart true
-        ≡ (has (is_on_page page.now hart) slot.now || get_or harts.old hart true) }
+        ≡ (has (is_on_page page.now hart) item.now || get_or harts.old hart true) }
 {
-    if !slot.is_gone && is_that_page(&slot.item.entry.page, page) {
-        harts[slot.item.hart as usize] = true;
+    if !item.state.is_gone() && is_that_page(&item.entry.page, page) {
+        harts[item.hart as usize] = true;
     }
 }
 
 // The harts of the items of a page: all of them where its chain is long.
 fn harts_of(held: &HeldList, page: &Page) -> [bool; HARTS]
-    ensures { AreHartsOf page.now (items_of held.now.slots.items) result }
+    ensures { AreHartsOf page.now (items_of held.now.places.items) result }
 {
-    let slots = held.as_slice();
+    let places = held.as_slice();
     let mut harts = [false; HARTS];
     let mut steps = HARTS_STEPS;
     let Some(mut at) = held.pages.newest(page_key(page), &mut steps) else {
         return [true; HARTS];
     };
     while at > 0 {
-        add_hart_of(&mut harts, page, &slots[at - 1]);
+        add_hart_of(&mut harts, page, &places[at - 1]);
         let Some(older) = held.pages.before(at, &mut steps) else {
             return [true; HARTS];
         };
@@ -65,17 +64,17 @@ fn remember_by_hart(
     harts: &mut [bool; HARTS],
     live: &LastLive,
 ) -> Result<(), AllocError>
-    requires { AreHartsOf live.now.entry.page (items_of held.old.slots.items) harts.old }
-    ensures ok { OnOk result (items_of held.new.slots.items
-        ≡ remembered live.now (items_of held.old.slots.items)) }
-    ensures err { OnErr result (items_of held.new.slots.items ≡ items_of held.old.slots.items) }
-    ensures harts { OnOk result (AreHartsOf live.now.entry.page (items_of held.new.slots.items)
+    requires { AreHartsOf live.now.entry.page (items_of held.old.places.items) harts.old }
+    ensures ok { OnOk result (items_of held.new.places.items
+        ≡ remembered live.now (items_of held.old.places.items)) }
+    ensures err { OnErr result (items_of held.new.places.items ≡ items_of held.old.places.items) }
+    ensures harts { OnOk result (AreHartsOf live.now.entry.page (items_of held.new.places.items)
         harts.new) }
 {
     if harts[live.hart as usize] {
         return remember(held, live);
     }
-    held.push(Held::from_live(live))?;
+    held.push(live)?;
     harts[live.hart as usize] = true;
     Ok(())
 }
@@ -97,9 +96,9 @@ fn remember_run(held: &mut HeldList, live: &[LastLive], start: usize) -> Result<
     requires { start < length live.now }
     ensures end { IfOk result (λ end. start < end) }
     ensures ok { IfOk result (λ end. AreRememberedUpTo live.now start end
-        (items_of held.old.slots.items) (items_of held.new.slots.items)) }
+        (items_of held.old.places.items) (items_of held.new.places.items)) }
     ensures err { OnErr result ((n : ℕ) × AreRememberedUpTo live.now start n
-        (items_of held.old.slots.items) (items_of held.new.slots.items)) }
+        (items_of held.old.places.items) (items_of held.new.places.items)) }
 {
     let page = live[start].entry.page;
     let mut harts = harts_of(held, &page);
@@ -115,11 +114,11 @@ fn remember_run(held: &mut HeldList, live: &[LastLive], start: usize) -> Result<
 
 /// With translations that were live. At `Err` some of them are there.
 pub(crate) fn remember_all(held: &mut HeldList, live: &[LastLive]) -> Result<(), AllocError>
-    ensures ok { OnOk result (items_of held.new.slots.items
-        ≡ remembered_all live.now (items_of held.old.slots.items)) }
+    ensures ok { OnOk result (items_of held.new.places.items
+        ≡ remembered_all live.now (items_of held.old.places.items)) }
     ensures err { OnErr result ((n : ℕ)
-        × (items_of held.new.slots.items
-        ≡ remembered_all (take n live.now) (items_of held.old.slots.items))) }
+        × (items_of held.new.places.items
+        ≡ remembered_all (take n live.now) (items_of held.old.places.items))) }
 {
     let mut at = 0;
     while at < live.len() {

@@ -2,11 +2,11 @@
 
 ghost use Rattle.std.specs.Prelude.{◌≡◌, ◌<◌, ◌≤◌, length, map, take};
 ghost use Rattle.watch_engine.specs.Chains.{AreChained};
-ghost use Rattle.watch_engine.specs.Slots.{key_in};
+ghost use Rattle.watch_engine.specs.Keys.{key_of};
 
 use crate::chains::{Chains, bucket_of, link};
+use crate::held::Held;
 use crate::keys::By;
-use crate::slot::Slot;
 
 // Takes the keys from a place on out of their chains, the last first.
 fn unlink_from(keys: &[u64], links: &[usize], heads: &mut [usize], first: usize)
@@ -26,25 +26,25 @@ fn unlink_from(keys: &[u64], links: &[usize], heads: &mut [usize], first: usize)
 
 // Puts the keys of the places from one on into their chains.
 fn link_from(
-    slots: &[Slot],
+    places: &[Held],
     by: By,
     keys: &mut [u64],
     links: &mut [usize],
     heads: &mut [usize],
     first: usize,
 )
-    requires first { first ≤ length slots.now }
-    requires fewer { length slots.now ≤ length keys.old }
+    requires first { first ≤ length places.now }
+    requires fewer { length places.now ≤ length keys.old }
     requires links { length links.old ≡ length keys.old }
     requires heads { 0 < length keys.old → 0 < length heads.old }
-    requires same { take first keys.old ≡ map (key_in by) (take first slots.now) }
+    requires same { take first keys.old ≡ map (key_of by) (take first places.now) }
     requires chained { AreChained (length heads.old) (take first keys.old) links.old heads.old }
-    ensures keys { take (length slots.now) keys.new ≡ map (key_in by) slots.now }
-    ensures chained { AreChained (length heads.old) (take (length slots.now) keys.new) links.new
+    ensures keys { take (length places.now) keys.new ≡ map (key_of by) places.now }
+    ensures chained { AreChained (length heads.old) (take (length places.now) keys.new) links.new
         heads.new }
 {
-    for place in first..slots.len() {
-        keys[place] = by.key_of(&slots[place].item);
+    for place in first..places.len() {
+        keys[place] = by.key_of(&places[place]);
         link(keys, links, heads, place);
     }
 }
@@ -52,11 +52,11 @@ fn link_from(
 impl Chains {
     /// With the keys of these places, of which there are no more than keys, and up to a place the
     /// same. It needs no memory.
-    pub(crate) fn relink(&mut self, slots: &[Slot], by: By, first: usize)
-        requires first { first ≤ length slots.now }
-        requires fewer { length slots.now ≤ length self.old.keys.items }
-        requires same { take first self.old.keys.items ≡ map (key_in by) (take first slots.now) }
-        ensures { self.new.keys.items ≡ map (key_in by) slots.now }
+    pub(crate) fn relink(&mut self, places: &[Held], by: By, first: usize)
+        requires first { first ≤ length places.now }
+        requires fewer { length places.now ≤ length self.old.keys.items }
+        requires same { take first self.old.keys.items ≡ map (key_of by) (take first places.now) }
+        ensures { self.new.keys.items ≡ map (key_of by) places.now }
     {
         unlink_from(
             self.keys.as_slice(),
@@ -65,14 +65,14 @@ impl Chains {
             first,
         );
         link_from(
-            slots,
+            places,
             by,
             self.keys.as_mut_slice(),
             self.links.as_mut_slice(),
             self.heads.as_mut_slice(),
             first,
         );
-        self.keys.truncate(slots.len());
-        self.links.truncate(slots.len());
+        self.keys.truncate(places.len());
+        self.links.truncate(places.len());
     }
 }

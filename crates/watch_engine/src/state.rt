@@ -1,7 +1,7 @@
 //! The state of a translation that a hart may hold.
 
 ghost use Rattle.std.specs.Prelude.{◌≡◌, true};
-ghost use Rattle.watch_engine.specs.State.{alone, given_too, has_had, joint, none_given, rechecked, since_of, was_given};
+ghost use Rattle.watch_engine.specs.State.{alone, given_too, has_had, is_gone, joint, none_given, rechecked, since_of, was_given};
 
 use watch::Verdict;
 
@@ -21,6 +21,8 @@ pub(crate) enum State {
     /// The tables have not had it since so many records, and it has had these verdicts since then.
     /// The flags come first, beside the tag, which saves 8 bytes.
     Stale { given: Given, since: u64 },
+    /// It has gone: nothing of it counts but its keys, by which chains go on.
+    Gone,
 }
 
 impl Given {
@@ -67,14 +69,21 @@ impl Given {
 }
 
 impl State {
+    #[inline(always)]
+    pub(crate) fn is_gone(&self) -> bool
+        ensures { result ≡ is_gone self.now }
+    {
+        matches!(self, State::Gone)
+    }
+
     /// The number of records since which it has been stale.
     #[inline(always)]
     pub(crate) fn since(&self) -> Option<u64>
         ensures { result ≡ since_of self.now }
     {
         match self {
-            State::Current => None,
             State::Stale { since, .. } => Some(*since),
+            State::Current | State::Gone => None,
         }
     }
 
@@ -84,8 +93,8 @@ impl State {
         ensures { result ≡ has_had verdict self.now }
     {
         match self {
-            State::Current => false,
             State::Stale { given, .. } => given.has(verdict),
+            State::Current | State::Gone => false,
         }
     }
 
@@ -94,13 +103,15 @@ impl State {
     pub(crate) fn recheck(&mut self, mapped: bool, count: u64)
         ensures { self.new ≡ rechecked mapped count self.old }
     {
-        if mapped {
-            *self = State::Current;
-        } else if self.since().is_none() {
-            *self = State::Stale {
-                given: Given::none(),
-                since: count,
-            };
+        match self {
+            State::Current if !mapped => {
+                *self = State::Stale {
+                    given: Given::none(),
+                    since: count,
+                };
+            }
+            State::Stale { .. } if mapped => *self = State::Current,
+            _ => {}
         }
     }
 

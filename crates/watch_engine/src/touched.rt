@@ -7,7 +7,8 @@ ghost use Rattle.watch.specs.Trace.{index_of};
 ghost use Rattle.watch_engine.specs.LastAnswer.{IsAnswered};
 ghost use Rattle.watch_engine.specs.Held.{is_current_by, translation_of};
 ghost use Rattle.watch_engine.specs.Touched.{asks, is_below, is_kept_after, is_touched, is_touched_on, settled_if};
-ghost use Rattle.watch_engine.specs.Slots.{AreFewGone, count_gone, has, items_of, turned};
+ghost use Rattle.watch_engine.specs.State.{is_gone};
+ghost use Rattle.watch_engine.specs.Places.{AreFewGone, count_gone, has, items_of, turned};
 
 use crate::concern::Concern;
 use crate::held::Held;
@@ -16,8 +17,8 @@ use crate::last_answer::{LastAnswer, is_current_again};
 use crate::live::is_live_in;
 use crate::roots::Roots;
 use crate::satps::satp_in;
-use crate::slot::Slot;
-use crate::slots::add_empty;
+use crate::state::State;
+use crate::places::add_empty;
 use crate::tables::Tables;
 use pte::{PAGE_BYTES, Page, Scheme};
 use watch::Space;
@@ -81,7 +82,8 @@ fn is_touched(scheme: Scheme, roots: &Roots, address: u64, ways: &[Way], item: &
 }
 
 impl Held {
-    // With what the tables have now, if the store concerns it. Whether it can be filled again.
+    // With what the tables have now, if the store concerns it; gone, if it can be filled again. Whether
+    // its place is empty now.
     #[inline(always)]
     fn settle_if<T: Tables>(
         &mut self,
@@ -98,12 +100,16 @@ impl Held {
             last.old }
         ensures last { IsAnswered (is_current_by (is_mapped scheme (T.words tables.now)) roots.now)
             last.new }
-        ensures item { self.new ≡ settled_if (is_touched scheme roots.now (index_of address)
-            ways.now (translation_of self.old)) (is_current_by (is_mapped scheme
-            (T.words tables.now)) roots.now (translation_of self.old)) count self.old }
-        ensures live { result ≡ not (is_kept_after scheme (T.words tables.now) satps.now roots.now
-            (index_of address) ways.now self.old) }
+        ensures empty { result ≡ is_gone self.new.state }
+        ensures item { self.new ≡ turned (λ i. (settled_if (is_touched scheme roots.now
+            (index_of address) ways.now (translation_of i)) (is_current_by (is_mapped scheme
+            (T.words tables.now)) roots.now (translation_of i)) count i).state)
+            (λ i. not (is_kept_after scheme (T.words tables.now) satps.now roots.now
+            (index_of address) ways.now i)) self.old }
     {
+        if self.state.is_gone() {
+            return true;
+        }
         if !is_touched(scheme, roots, address, ways, self) {
             return false;
         }
@@ -111,49 +117,17 @@ impl Held {
         let current = is_current_again(tables, scheme, roots, last, self.root, &self.entry);
         self.state.recheck(current, count);
         let space = satp_in(satps, self.hart);
-        is_live_in(tables, scheme, space, self.root, &self.entry)
-    }
-}
-
-impl Slot {
-    // The same of the item that is there, and without one that can be filled again. Whether the place
-    // is empty now.
-    #[inline(always)]
-    fn settle_if<T: Tables>(
-        &mut self,
-        tables: &T,
-        scheme: Scheme,
-        satps: &[Option<Space>],
-        roots: &Roots,
-        address: u64,
-        ways: &[Way],
-        count: u64,
-        last: &mut Option<LastAnswer>,
-    ) -> bool
-        requires { IsAnswered (is_current_by (is_mapped scheme (T.words tables.now)) roots.now)
-            last.old }
-        ensures last { IsAnswered (is_current_by (is_mapped scheme (T.words tables.now)) roots.now)
-            last.new }
-        ensures empty { result ≡ self.new.is_gone }
-        ensures slot { self.new ≡ turned (λ i. settled_if (is_touched scheme roots.now
-            (index_of address) ways.now (translation_of i)) (is_current_by (is_mapped scheme
-            (T.words tables.now)) roots.now (translation_of i)) count i)
-            (λ i. not (is_kept_after scheme (T.words tables.now) satps.now roots.now
-            (index_of address) ways.now i)) self.old }
-    {
-        if self.is_gone {
-            return true;
+        let is_live = is_live_in(tables, scheme, space, self.root, &self.entry);
+        if is_live {
+            self.state = State::Gone;
         }
-        self.is_gone = self
-            .item
-            .settle_if(tables, scheme, satps, roots, address, ways, count, last);
-        self.is_gone
+        is_live
     }
 }
 
 // The same of each from a place on, where none before it is concerned; how many are empty then.
 fn settle_each_touched<T: Tables>(
-    slots: &mut [Slot],
+    places: &mut [Held],
     tables: &T,
     scheme: Scheme,
     satps: &[Option<Space>],
@@ -163,20 +137,20 @@ fn settle_each_touched<T: Tables>(
     count: u64,
     first: usize,
 ) -> usize
-    requires first { first ≤ length slots.old }
+    requires first { first ≤ length places.old }
     requires none { list_any (has (λ i. is_touched scheme roots.now (index_of address) ways.now
-        (translation_of i))) (take first slots.old) ≡ false }
-    ensures gone { count_gone slots.new ≤ count_gone slots.old + result }
-    ensures slots { slots.new ≡ map (turned (λ i. settled_if (is_touched scheme roots.now
+        (translation_of i))) (take first places.old) ≡ false }
+    ensures gone { count_gone places.new ≤ count_gone places.old + result }
+    ensures places { places.new ≡ map (turned (λ i. (settled_if (is_touched scheme roots.now
         (index_of address) ways.now (translation_of i)) (is_current_by (is_mapped scheme
-        (T.words tables.now)) roots.now (translation_of i)) count i)
+        (T.words tables.now)) roots.now (translation_of i)) count i).state)
         (λ i. not (is_kept_after scheme (T.words tables.now) satps.now roots.now
-        (index_of address) ways.now i))) slots.old }
+        (index_of address) ways.now i))) places.old }
 {
     let mut empty: usize = 0;
     let mut last = None;
-    for place in first..slots.len() {
-        let is_empty = slots[place].settle_if(
+    for place in first..places.len() {
+        let is_empty = places[place].settle_if(
             tables, scheme, satps, roots, address, ways, count, &mut last,
         );
         if is_empty {
@@ -197,8 +171,8 @@ fn first_touched_on(
     steps: &mut usize,
 ) -> usize
     ensures none { list_any (has (λ i. is_touched_on scheme roots.now (index_of address)
-        (translation_of i) way.now)) (take result held.now.slots.items) ≡ false }
-    ensures within { result ≤ length held.now.slots.items }
+        (translation_of i) way.now)) (take result held.now.places.items) ≡ false }
+    ensures within { result ≤ length held.now.places.items }
 {
     let store = Concern::Store {
         scheme,
@@ -219,8 +193,8 @@ fn first_touched(
     ways: &[Way],
 ) -> usize
     ensures none { list_any (has (λ i. is_touched scheme roots.now (index_of address) ways.now
-        (translation_of i))) (take result held.now.slots.items) ≡ false }
-    ensures within { result ≤ length held.now.slots.items }
+        (translation_of i))) (take result held.now.places.items) ≡ false }
+    ensures within { result ≤ length held.now.places.items }
 {
     let mut first = held.as_slice().len();
     let mut steps = held.chain_steps();
@@ -251,18 +225,18 @@ fn settle_touched_from<T: Tables>(
     count: u64,
     first: usize,
 )
-    requires first { first ≤ length held.old.slots.items }
+    requires first { first ≤ length held.old.places.items }
     requires none { list_any (has (λ i. is_touched scheme roots.now (index_of address) ways.now
-        (translation_of i))) (take first held.old.slots.items) ≡ false }
-    ensures few { AreFewGone held.new.slots.items }
-    ensures left { items_of held.new.slots.items ≡ map (λ i. settled_if (is_touched scheme roots.now
+        (translation_of i))) (take first held.old.places.items) ≡ false }
+    ensures few { AreFewGone held.new.places.items }
+    ensures left { items_of held.new.places.items ≡ map (λ i. settled_if (is_touched scheme roots.now
         (index_of address) ways.now (translation_of i)) (is_current_by (is_mapped scheme
         (T.words tables.now)) roots.now (translation_of i)) count i) (filter (is_kept_after scheme
         (T.words tables.now) satps.now roots.now (index_of address) ways.now)
-        (items_of held.old.slots.items)) }
+        (items_of held.old.places.items)) }
 {
     let empty = settle_each_touched(
-        held.slots.as_mut_slice(),
+        held.places.as_mut_slice(),
         tables,
         scheme,
         satps,
@@ -272,7 +246,7 @@ fn settle_touched_from<T: Tables>(
         count,
         first,
     );
-    held.empty = add_empty(held.slots.as_slice(), held.empty, empty);
+    held.empty = add_empty(held.places.as_slice(), held.empty, empty);
     held.tidy();
 }
 
@@ -288,11 +262,11 @@ pub(crate) fn settle_touched<T: Tables>(
     ways: &[Way],
     count: u64,
 )
-    ensures { items_of held.new.slots.items ≡ map (λ i. settled_if (is_touched scheme roots.now
+    ensures { items_of held.new.places.items ≡ map (λ i. settled_if (is_touched scheme roots.now
         (index_of address) ways.now (translation_of i)) (is_current_by (is_mapped scheme
         (T.words tables.now)) roots.now (translation_of i)) count i) (filter (is_kept_after scheme
         (T.words tables.now) satps.now roots.now (index_of address) ways.now)
-        (items_of held.old.slots.items)) }
+        (items_of held.old.places.items)) }
 {
     let first = first_touched(held, scheme, roots, address, ways);
     if first < held.as_slice().len() {

@@ -3,13 +3,13 @@
 ghost use Rattle.std.specs.Prelude.{◌≡◌, [], IfOk, OnOk, if◌then◌else◌};
 ghost use Rattle.watch_engine.specs.Warnings.{has_same_rights, is_line, is_same_page, is_same_scope, is_shown, joined, warning_of, with_warning};
 ghost use Rattle.std.specs.List.{list_any};
-ghost use Rattle.watch_engine.specs.Slots.{items_of};
+ghost use Rattle.watch_engine.specs.Places.{items_of};
+ghost use Rattle.watch_engine.specs.State.{is_gone};
 
 use crate::cause::Cause;
 use crate::concern::Concern;
 use crate::held::Held;
 use crate::held_list::HeldList;
-use crate::slot::Slot;
 use pte::PteFlags;
 use std::alloc::{AllocError, Global};
 use tlb::Entry;
@@ -96,25 +96,24 @@ fn is_shown(warnings: &[Warning], item: &Held) -> bool
 }
 
 // With the warning of a translation that is there, if there is one and it is not shown yet.
-fn add_warning(warnings: &mut Vec<Warning>, slot: &Slot, cause: &Cause) -> Result<(), AllocError>
-    ensures { OnOk result (warnings.new.items ≡ (if slot.now.is_gone then warnings.old.items
-        else with_warning cause.now slot.now.item warnings.old.items)) }
+fn add_warning(warnings: &mut Vec<Warning>, item: &Held, cause: &Cause) -> Result<(), AllocError>
+    ensures { OnOk result (warnings.new.items ≡ (if is_gone item.now.state then warnings.old.items
+        else with_warning cause.now item.now warnings.old.items)) }
 {
-    let item = &slot.item;
-    if !slot.is_gone && item.is_given_by(cause) && !is_shown(warnings.as_slice(), item) {
+    if !item.state.is_gone() && item.is_given_by(cause) && !is_shown(warnings.as_slice(), item) {
         warnings.push(Warning::of(cause.verdict(), item))?;
     }
     Ok(())
 }
 
 // The warnings for a cause, of all items.
-fn all_warnings(alloc: Global, slots: &[Slot], cause: &Cause) -> Result<Vec<Warning>, AllocError>
+fn all_warnings(alloc: Global, places: &[Held], cause: &Cause) -> Result<Vec<Warning>, AllocError>
     ensures { IfOk result (λ warnings.
-        warnings.items ≡ joined cause.now (items_of slots.now) []) }
+        warnings.items ≡ joined cause.now (items_of places.now) []) }
 {
     let mut warnings = Vec::new(alloc);
-    for slot in slots {
-        add_warning(&mut warnings, slot, cause)?;
+    for item in places {
+        add_warning(&mut warnings, item, cause)?;
     }
     Ok(warnings)
 }
@@ -126,7 +125,7 @@ pub(crate) fn warnings(
     cause: &Cause,
 ) -> Result<Vec<Warning>, AllocError>
     ensures { IfOk result (λ warnings.
-        warnings.items ≡ joined cause.now (items_of held.now.slots.items) []) }
+        warnings.items ≡ joined cause.now (items_of held.now.places.items) []) }
 {
     if !held.may_concern(&Concern::Given(*cause)) {
         return Ok(Vec::new(alloc));

@@ -1,6 +1,6 @@
 use Rattle.std.proofs.Common.{sym, ◌∙◌, arith}
 use Rattle.std.proofs.lemmas.Bool.{le-ltb}
-use Rattle.watch_engine.proofs.Places.{high_bit}
+use Rattle.watch_engine.proofs.Placed.{high_bit}
 use Rattle.watch_engine.proofs.fence.names.Goals as goal
 
 pub returns-else-hart-lt64 : goal.returns-else-hart-lt64

@@ -1,6 +1,6 @@
 use Rattle.std.proofs.Common.{◌≡◌, ◌≤◌, ℕ, List, ap, length, take, arith}
 use Rattle.watch.specs.Trace.{index_of}
-use Rattle.watch_engine.specs.declared.slot.Slot.{Slot}
+use Rattle.watch_engine.specs.declared.held.Held.{Held}
 use Rattle.watch_engine.proofs.Untouched.{no_more, none_of}
 use Rattle.watch_engine.proofs.Walks.{any_fewer}
 use Rattle.watch_engine.proofs.touched.first_touched.Goals.{then-place-first, else-place-first}
@@ -8,13 +8,13 @@ use Rattle.watch_engine.proofs.touched.first_touched.Goals as goal
 
 pub loop-way-init : goal.loop-way-init
 loop-way-init c =
-    let items : List Slot = c.args.held.now.slots.items in
-    let long : length c.as_slice-first.result.now ≡ length items = ap (λ (l : List Slot). length l) c.as_slice-first.ensures.value in
+    let items : List Held = c.args.held.now.places.items in
+    let long : length c.as_slice-first.result.now ≡ length items = ap (λ (l : List Held). length l) c.as_slice-first.ensures.value in
     record { none = none_of (take (length c.as_slice-first.result.now) items); within = omega arith }
 
 pub loop-way-preserved : goal.loop-way-preserved
 loop-way-preserved c =
-    let items : List Slot = c.args.held.now.slots.items in
+    let items : List Held = c.args.held.now.places.items in
     let was = c.loop-way.invariant in
     let place : ℕ = c.first_touched_on-place.result in
     elim c.if-place-first.branch [

@@ -5,12 +5,12 @@ use Rattle.std.proofs.lemmas.List.Edits.{map_over_more}
 use Rattle.watch.specs.Computed.{is_mapped}
 use Rattle.watch.specs.Trace.{index_of}
 use Rattle.watch_engine.specs.declared.held.Held.{Held}
-use Rattle.watch_engine.specs.declared.slot.Slot.{Slot}
 use Rattle.watch_engine.specs.Held.{is_current_by, translation_of}
 use Rattle.watch_engine.specs.Touched.{is_kept_after, is_touched, settled_if}
 use Rattle.watch.specs.ComputedTraces.{is_live_in}
-use Rattle.watch_engine.specs.Slots.{turned}
-use Rattle.watch_engine.proofs.Untouched.{same_slots}
+use Rattle.watch_engine.specs.Places.{turned}
+use Rattle.watch_engine.specs.declared.state.State.{State}
+use Rattle.watch_engine.proofs.Untouched.{same_places}
 use Rattle.watch_engine.proofs.EmptyPlaces.{gone_in, gone_set}
 use Rattle.watch_engine.proofs.touched.settle_each_touched.Goals.{then-is_empty, else-is_empty}
 use Rattle.watch_engine.proofs.touched.settle_each_touched.Goals as goal
@@ -21,9 +21,9 @@ loop-place-init g c =
     let touch : Held → Bool = λ i. is_touched c.args.scheme c.args.roots.now (index_of c.args.address) c.args.ways.now (translation_of i) in
     let current : Held → Bool = λ i. is_current_by (is_mapped c.args.scheme words) c.args.roots.now (translation_of i) in
     let live : Held → Bool = λ i. is_live_in c.args.scheme words (get_or c.args.satps.now i.hart None) (translation_of i) in
-    let front : List Slot = take c.args.first c.args.slots.now in
+    let front : List Held = take c.args.first c.args.places.now in
     record {
-      slots = sym (ap (λ (l : List Slot). l ++ drop c.args.first c.args.slots.now) (same_slots touch current live c.args.count front c.requires.none) ∙ take-append-drop c.args.first c.args.slots.now);
+      places = sym (ap (λ (l : List Held). l ++ drop c.args.first c.args.places.now) (same_places touch current live c.args.count front c.requires.none) ∙ take-append-drop c.args.first c.args.places.now);
       last = tt;
       gone = omega arith;
       few = omega arith;
@@ -34,35 +34,35 @@ loop-place-preserved g c =
     let words = g.T.Tables.words c.args.tables.now in
     let touch : Held → Bool = λ i. is_touched c.args.scheme c.args.roots.now (index_of c.args.address) c.args.ways.now (translation_of i) in
     let current : Held → Bool = λ i. is_current_by (is_mapped c.args.scheme words) c.args.roots.now (translation_of i) in
-    let f : Held → Held = λ i. settled_if (touch i) (current i) c.args.count i in
+    let after : Held → State = λ i. (settled_if (touch i) (current i) c.args.count i).state in
     let kept : Held → Bool = is_kept_after c.args.scheme words c.args.satps.now c.args.roots.now (index_of c.args.address) c.args.ways.now in
     let goes : Held → Bool = λ i. not (kept i) in
-    let turn : Slot → Slot = turned f goes in
+    let turn : Held → Held = turned after goes in
     let at = c.loop-place.place in
-    let old = c.args.slots.now in
+    let old = c.args.places.now in
     let within : at < length old = search rules in
-    let x : Slot = c.index-slots-place.result in
-    let new : c.settle_if-is_empty.new.self ≡ turn x = c.settle_if-is_empty.ensures.slot ∙ ap turn (sym c.index-slots-place.is) in
+    let x : Held = c.index-places-place.result in
+    let new : c.settle_if-is_empty.new.self ≡ turn x = c.settle_if-is_empty.ensures.item ∙ ap turn (sym c.index-places-place.is) in
     let counted : gone_in c.settle_if-is_empty.new.self + c.loop-place.empty ≡ c.if-is_empty.empty = elim c.if-is_empty.branch [
       | then-is_empty w ↦ ap (λ (b : Bool). (if b then 1 else 0) + c.loop-place.empty) (sym c.settle_if-is_empty.ensures.empty ∙ w.if-is_empty.true) ∙ omega (arith, w.empty-is)
       | else-is_empty w ↦ ap (λ (b : Bool). (if b then 1 else 0) + c.loop-place.empty) (sym c.settle_if-is_empty.ensures.empty ∙ w.if-is_empty.false) ∙ omega (arith, w.empty-is)
     ] in
-    let more = gone_set c.loop-place.slots at c.settle_if-is_empty.new.self in
+    let more = gone_set c.loop-place.places at c.settle_if-is_empty.new.self in
     record {
-      slots = rw new (map_over_more turn old c.loop-place.slots at x within c.loop-place.invariant.slots c.index-slots-place.is);
+      places = rw new (map_over_more turn old c.loop-place.places at x within c.loop-place.invariant.places c.index-places-place.is);
       last = c.settle_if-is_empty.ensures.last;
       gone = omega (arith, more, counted, c.loop-place.invariant.gone);
       few = omega (arith, counted, c.loop-place.invariant.few);
     }
 
-pub returns-clause-slots : goal.returns-clause-slots
-returns-clause-slots g c =
+pub returns-clause-places : goal.returns-clause-places
+returns-clause-places g c =
     let words = g.T.Tables.words c.args.tables.now in
     let touch : Held → Bool = λ i. is_touched c.args.scheme c.args.roots.now (index_of c.args.address) c.args.ways.now (translation_of i) in
     let current : Held → Bool = λ i. is_current_by (is_mapped c.args.scheme words) c.args.roots.now (translation_of i) in
-    let f : Held → Held = λ i. settled_if (touch i) (current i) c.args.count i in
+    let after : Held → State = λ i. (settled_if (touch i) (current i) c.args.count i).state in
     let kept : Held → Bool = is_kept_after c.args.scheme words c.args.satps.now c.args.roots.now (index_of c.args.address) c.args.ways.now in
     let goes : Held → Bool = λ i. not (kept i) in
-    let turn : Slot → Slot = turned f goes in
-    let long : length c.args.slots.now ≤ c.loop-place.place = search rules in
-    c.loop-place.invariant.slots ∙ ((λ j. map turn (take_all c.loop-place.place c.args.slots.now long j) ++ drop_all c.loop-place.place c.args.slots.now long j) ∙ append-nil (map turn c.args.slots.now))
+    let turn : Held → Held = turned after goes in
+    let long : length c.args.places.now ≤ c.loop-place.place = search rules in
+    c.loop-place.invariant.places ∙ ((λ j. map turn (take_all c.loop-place.place c.args.places.now long j) ++ drop_all c.loop-place.place c.args.places.now long j) ∙ append-nil (map turn c.args.places.now))

@@ -4,9 +4,10 @@ use Rattle.std.specs.Result.{is_ok}
 use Rattle.std.specs.declared.result.Result.{Result}
 use Rattle.std.proofs.lemmas.Bool.{true≢false}
 use Rattle.watch_engine.specs.declared.keys.By.TheVariants.{Frame, Page, Root}
-use Rattle.watch_engine.specs.declared.slot.Slot.{Slot}
-use Rattle.watch_engine.specs.Slots.{count_gone, items_of}
-use Rattle.watch_engine.proofs.Emptying.{items_append, keys_append}
+use Rattle.watch_engine.specs.declared.held.Held.{Held}
+use Rattle.watch_engine.specs.Places.{count_gone, is_there, items_of}
+use Rattle.std.proofs.lemmas.List.Elements.{filter-append}
+use Rattle.watch_engine.proofs.Emptying.{keys_append}
 use Rattle.watch_engine.proofs.EmptyPlaces.{gone_append, gone_in}
 use Rattle.watch_engine.proofs.held_list.HeldList.try_push.Goals as goal
 
@@ -16,36 +17,36 @@ ok_then (Err e) P is p = absurd (true≢false (sym is))
 
 pub returns-then-is_ok-2-clause-ok : goal.returns-then-is_ok-2-clause-ok
 returns-then-is_ok-2-clause-ok c =
-    let slots : List Slot = c.args.self.now.slots.items in
-    let more : c.push.new.self.items ≡ slots ++ c.new.result ∷ [] = search rules in
-    ap items_of more ∙ (items_append slots (c.new.result ∷ []) ∙ ap (λ (s : Slot). items_of slots ++ items_of (s ∷ [])) c.new.ensures)
+    let places : List Held = c.args.self.now.places.items in
+    let more : c.push.new.self.items ≡ places ++ c.from_live-item.result ∷ [] = search rules in
+    ap items_of more ∙ (filter-append is_there places (c.from_live-item.result ∷ []) ∙ ap (λ (i : Held). items_of places ++ items_of (i ∷ [])) c.from_live-item.ensures)
 
 pub invariant_of-self-clause-counted : goal.invariant_of-self-clause-counted
 invariant_of-self-clause-counted c =
-    let slots : List Slot = c.args.self.now.slots.items in
-    let more : c.push.new.self.items ≡ slots ++ c.new.result ∷ [] = search rules in
-    let count : count_gone c.push.new.self.items ≡ count_gone (slots ++ c.new.result ∷ []) = ap (λ (l : List Slot). count_gone l) more in
-    let there : gone_in c.new.result ≡ 0 = ap gone_in c.new.ensures in
-    let one = gone_append slots c.new.result in
+    let places : List Held = c.args.self.now.places.items in
+    let more : c.push.new.self.items ≡ places ++ c.from_live-item.result ∷ [] = search rules in
+    let count : count_gone c.push.new.self.items ≡ count_gone (places ++ c.from_live-item.result ∷ []) = ap (λ (l : List Held). count_gone l) more in
+    let there : gone_in c.from_live-item.result ≡ 0 = ap gone_in c.from_live-item.ensures in
+    let one = gone_append places c.from_live-item.result in
     omega (arith, c.args.self.now.counted)
 
 pub invariant_of-self-clause-by_page : goal.invariant_of-self-clause-by_page
 invariant_of-self-clause-by_page c =
-    let slots : List Slot = c.args.self.now.slots.items in
-    let more : c.push.new.self.items ≡ slots ++ c.new.result ∷ [] = search rules in
-    keys_append Page c.push_keys-keyed.new.pages.keys.items c.args.self.now.pages.keys.items slots c.push.new.self.items c.new.result c.args.item.now
-    (ok_then c.push_keys-keyed.result _ (sym c.is_ok.ensures.value ∙ c.if-is_ok.true) c.push_keys-keyed.ensures.pages) c.args.self.now.by_page more c.new.ensures
+    let places : List Held = c.args.self.now.places.items in
+    let more : c.push.new.self.items ≡ places ++ c.from_live-item.result ∷ [] = search rules in
+    keys_append Page c.push_keys-keyed.new.pages.keys.items c.args.self.now.pages.keys.items places c.push.new.self.items c.from_live-item.result
+    (ok_then c.push_keys-keyed.result _ (sym c.is_ok.ensures.value ∙ c.if-is_ok.true) c.push_keys-keyed.ensures.pages) c.args.self.now.by_page more
 
 pub invariant_of-self-clause-by_frame : goal.invariant_of-self-clause-by_frame
 invariant_of-self-clause-by_frame c =
-    let slots : List Slot = c.args.self.now.slots.items in
-    let more : c.push.new.self.items ≡ slots ++ c.new.result ∷ [] = search rules in
-    keys_append Frame c.push_keys-keyed.new.frames.keys.items c.args.self.now.frames.keys.items slots c.push.new.self.items c.new.result c.args.item.now
-    (ok_then c.push_keys-keyed.result _ (sym c.is_ok.ensures.value ∙ c.if-is_ok.true) c.push_keys-keyed.ensures.frames) c.args.self.now.by_frame more c.new.ensures
+    let places : List Held = c.args.self.now.places.items in
+    let more : c.push.new.self.items ≡ places ++ c.from_live-item.result ∷ [] = search rules in
+    keys_append Frame c.push_keys-keyed.new.frames.keys.items c.args.self.now.frames.keys.items places c.push.new.self.items c.from_live-item.result
+    (ok_then c.push_keys-keyed.result _ (sym c.is_ok.ensures.value ∙ c.if-is_ok.true) c.push_keys-keyed.ensures.frames) c.args.self.now.by_frame more
 
 pub invariant_of-self-clause-by_root : goal.invariant_of-self-clause-by_root
 invariant_of-self-clause-by_root c =
-    let slots : List Slot = c.args.self.now.slots.items in
-    let more : c.push.new.self.items ≡ slots ++ c.new.result ∷ [] = search rules in
-    keys_append Root c.push_keys-keyed.new.roots.keys.items c.args.self.now.roots.keys.items slots c.push.new.self.items c.new.result c.args.item.now
-    (ok_then c.push_keys-keyed.result _ (sym c.is_ok.ensures.value ∙ c.if-is_ok.true) c.push_keys-keyed.ensures.roots) c.args.self.now.by_root more c.new.ensures
+    let places : List Held = c.args.self.now.places.items in
+    let more : c.push.new.self.items ≡ places ++ c.from_live-item.result ∷ [] = search rules in
+    keys_append Root c.push_keys-keyed.new.roots.keys.items c.args.self.now.roots.keys.items places c.push.new.self.items c.from_live-item.result
+    (ok_then c.push_keys-keyed.result _ (sym c.is_ok.ensures.value ∙ c.if-is_ok.true) c.push_keys-keyed.ensures.roots) c.args.self.now.by_root more
