@@ -100,11 +100,3 @@ none_joined cause (i ∷ held) w none =
       | false ↦ λ t. none_joined cause held w (sym (ap (λ (b : Bool). b || list_any (applies cause) held) t) ∙ none)
     ] in
     go (applies cause i) refl
-
--- the warnings of places, one after another
-item_joined : (cause : Cause) (i : Held) (gone : Bool) (rest : List Held) (w : List Warning) → joined cause (cond (not gone) (i ∷ rest) rest) w ≡ joined cause rest (cond gone w (with_warning cause i w))
-item_joined cause i true rest w = refl
-item_joined cause i false rest w = refl
-
-pub place_joined : (cause : Cause) (i : Held) (places : List Held) (w : List Warning) → joined cause (items_of (i ∷ places)) w ≡ joined cause (items_of places) (cond (is_gone i.state) w (with_warning cause i w))
-place_joined cause i places w = item_joined cause i (is_gone i.state) (items_of places) w

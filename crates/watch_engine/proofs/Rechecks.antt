@@ -120,23 +120,6 @@ given_stays more Gone = refl
 pub advanced_stays : (mapped : Bool) (n : ℕ) (more : Given) (s : State) → is_gone (advanced mapped n more s) ≡ is_gone s
 advanced_stays mapped n more s = recheck_stays mapped n (given_all more s) ∙ given_stays more s
 
-pub found_stays : (found : Bool) (s : State) → is_gone (cond (is_some (since_of s) && found) Current s) ≡ is_gone s
-found_stays true Current = refl
-found_stays true (Stale given since) = refl
-found_stays true Gone = refl
-found_stays false Current = refl
-found_stays false (Stale given since) = refl
-found_stays false Gone = refl
-
-pub settled_stays : (mapped : Bool) (n : ℕ) (s : State) → is_gone (cond (is_some (since_of s)) s (rechecked mapped n s)) ≡ is_gone s
-settled_stays mapped n Current = recheck_stays mapped n Current
-settled_stays mapped n (Stale given since) = refl
-settled_stays mapped n Gone = refl
-
 pub touched_stays : (touched mapped : Bool) (n : ℕ) (s : State) → is_gone (cond touched (rechecked mapped n s) s) ≡ is_gone s
 touched_stays true mapped n s = recheck_stays mapped n s
 touched_stays false mapped n s = refl
-
-pub marked_stays : (marked : Bool) (v : Verdict) (s : State) → is_gone (cond marked (given_too v s) s) ≡ is_gone s
-marked_stays true v s = given_stays (alone v true) s
-marked_stays false v s = refl

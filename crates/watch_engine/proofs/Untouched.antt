@@ -13,21 +13,17 @@ use Rattle.watch_engine.specs.State.{is_gone, rechecked}
 use Rattle.watch_engine.specs.declared.state.State.{State}
 use Rattle.watch_engine.specs.declared.state.State.TheVariants.{Current, Gone, Stale}
 use Rattle.watch_engine.specs.Touched.{is_touched, is_touched_on, settled_if}
-use Rattle.watch_engine.proofs.Walks.{and_no}
+use Rattle.watch_engine.proofs.Walks.{and_no, or_parts}
 
 pub none_of : (places : List Held) → list_any (has (λ (i : Held). false)) places ≡ false
 none_of [] = refl
 none_of (s ∷ places) = (λ j. and_no (is_there s) j || list_any (has (λ (i : Held). false)) places) ∙ none_of places
 
-none_of_either : (a b : Bool) → (a || b) ≡ false → (a ≡ false) × (b ≡ false)
-none_of_either true b e = absurd (true≢false e)
-none_of_either false b e = (refl, e)
-
 none_of_both : (p q r : Held → Bool) → ((s : Held) → r s ≡ (p s || q s)) → (places : List Held) → list_any p places ≡ false → list_any q places ≡ false → list_any r places ≡ false
 none_of_both p q r is [] first second = refl
 none_of_both p q r is (s ∷ places) first second =
-    let a = none_of_either (p s) _ first in
-    let b = none_of_either (q s) _ second in
+    let a = or_parts (p s) _ first in
+    let b = or_parts (q s) _ second in
     ap (λ (t : Bool). t || list_any r places) (is s ∙ (λ j. a.0 j || b.0 j)) ∙ none_of_both p q r is places a.1 b.1
 
 and_either : (a b c : Bool) → (a && (b || c)) ≡ ((a && b) || (a && c))
@@ -46,19 +42,8 @@ no_more scheme roots index ways n d places within before here =
     ∙ and_either (is_there s) (is_touched scheme roots index (take n ways) (translation_of s)) (is_touched_on scheme roots index (translation_of s) (get_or ways n d)))
     places before here
 
--- where nothing is touched, all is left as it is
-pub same_list : (touched current live : Held → Bool) (n : ℕ) (items : List Held) → list_any touched items ≡ false
-    → map (λ i. settled_if (touched i) (current i) n i) (filter (λ i. not (touched i && live i)) items) ≡ items
-same_list touched current live n [] none = refl
-same_list touched current live n (i ∷ items) none =
-    let parts = none_of_either (touched i) _ none in
-    let f : Held → Held = λ i. settled_if (touched i) (current i) n i in
-    let p : Held → Bool = λ i. not (touched i && live i) in
-    ap (λ (t : Bool). map f (cond (not (t && live i)) (i ∷ filter p items) (filter p items))) parts.0
-    ∙ ((λ j. with_state (cond (parts.0 j) (rechecked (current i) n i.state) i.state) i ∷ map f (filter p items)) ∙ ap (λ (l : List Held). i ∷ l) (same_list touched current live n items parts.1))
-
--- each place is left as it is
-pub same_state : (touched current live : Bool) (n : ℕ) (s : State) → (not (is_gone s) && touched) ≡ false → cond (not (not (touched && live))) Gone (cond touched (rechecked current n s) s) ≡ s
+-- where nothing is touched, each place is left as it is
+pub same_state : (touched current live : Bool) (n : ℕ) (s : State) → (not (is_gone s) && touched) ≡ false → cond (touched && live) Gone (cond touched (rechecked current n s) s) ≡ s
 same_state false current live n s none = refl
 same_state true current live n Current none = cc
 same_state true current live n (Stale given since) none = cc
@@ -66,16 +51,8 @@ same_state true current true n Gone none = refl
 same_state true current false n Gone none = refl
 
 pub same_places : (touched current live : Held → Bool) (n : ℕ) (places : List Held) → list_any (has touched) places ≡ false
-    → map (turned (λ i. (settled_if (touched i) (current i) n i).state) (λ i. not (not (touched i && live i)))) places ≡ places
+    → map (turned (λ i. (settled_if (touched i) (current i) n i).state) (λ i. touched i && live i)) places ≡ places
 same_places touched current live n [] none = refl
 same_places touched current live n (i ∷ places) none =
-    let parts = none_of_either (has touched i) _ none in
+    let parts = or_parts (has touched i) _ none in
     λ j. with_state (same_state (touched i) (current i) (live i) n i.state parts.0 j) i ∷ same_places touched current live n places parts.1 j
-
-not_not : (b : Bool) → not (not b) ≡ b
-not_not true = refl
-not_not false = refl
-
-pub filter_not : (p : Held → Bool) (items : List Held) → filter (λ i. not (not (p i))) items ≡ filter p items
-filter_not p [] = refl
-filter_not p (i ∷ items) = λ j. cond (not_not (p i) j) (i ∷ filter_not p items j) (filter_not p items j)

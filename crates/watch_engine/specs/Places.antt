@@ -1,5 +1,5 @@
 -- A list of items in places, of which some may be empty: their items have gone.
-use Rattle.std.specs.Prelude.{ℕ, Bool, false, not, ◌+◌, ◌-◌, ◌*◌, ◌≤◌, ◌≡◌, ◌==◌, ◌&&◌, ◌⊎◌, filter, if◌then◌else◌, length, map}
+use Rattle.std.specs.Prelude.{ℕ, Bool, false, not, ◌+◌, ◌*◌, ◌≤◌, ◌≡◌, ◌==◌, ◌&&◌, ◌⊎◌, filter, if◌then◌else◌, length, map}
 use Rattle.std.specs.Prelude.{List, [], ◌∷◌, Option, Some, None}
 use Rattle.std.specs.List.{list_any}
 use Rattle.watch_engine.specs.declared.held.Held.{Held}
@@ -30,9 +30,9 @@ abbrev pub place_in : (Held → Bool) → ℕ → List Held → Option ℕ
 place_in test n [] = None
 place_in test n (i ∷ places) = if test i then Some n else place_in test (n + 1) places
 
--- how many places are empty: those that the items leave
+-- how many places are empty
 abbrev pub count_gone : List Held → ℕ
-count_gone places = length places - length (items_of places)
+count_gone places = length (filter (λ i. is_gone i.state) places)
 
 -- few places are empty, or no more than half
 abbrev pub AreFewGone : List Held → Type 0

@@ -36,11 +36,15 @@ is_touched_on scheme roots index x way =
 abbrev pub is_touched : Scheme → List ℕ → ℕ → List Way → Translation → Bool
 is_touched scheme roots index ways x = list_any (is_touched_on scheme roots index x) ways
 
--- it is not one that can be filled again
+-- it can be filled again
+abbrev pub is_filled_again : Scheme → Tables → List (Option Space) → List ℕ → ℕ → List Way → Held → Bool
+is_filled_again scheme words satps roots index ways i =
+    is_touched scheme roots index ways (translation_of i)
+    && is_live_in scheme words (get_or satps i.hart None) (translation_of i)
+
 abbrev pub is_kept_after : Scheme → Tables → List (Option Space) → List ℕ → ℕ → List Way → Held → Bool
 is_kept_after scheme words satps roots index ways i =
-    not (is_touched scheme roots index ways (translation_of i)
-    && is_live_in scheme words (get_or satps i.hart None) (translation_of i))
+    not (is_filled_again scheme words satps roots index ways i)
 
 abbrev pub settled_if : Bool → Bool → ℕ → Held → Held
 settled_if touched current now i =

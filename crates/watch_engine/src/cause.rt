@@ -9,6 +9,7 @@ ghost use Rattle.watch_engine.specs.Causes.{applies, is_given_by, verdict_of};
 use crate::fence::reaches;
 use crate::held::Held;
 use crate::open::OpenClaim;
+use crate::state_change::StateChange;
 use tlb::Entry;
 use watch::{Claim, Frames, Space, Verdict};
 
@@ -106,15 +107,6 @@ impl Held {
         }
     }
 
-    /// With the cause's verdict, if it is of it.
-    pub(crate) fn mark_by(&mut self, cause: &Cause)
-        ensures { self.new ≡ marked_if (verdict_of cause.now) (applies cause.now) self.old }
-    {
-        if self.is_of_cause(cause) {
-            self.state.give(cause.verdict());
-        }
-    }
-
     /// Whether a verdict of it is given and new.
     pub(crate) fn is_given_by(&self, cause: &Cause) -> bool
         ensures { result ≡ is_given_by cause.now self.now }
@@ -133,6 +125,18 @@ impl Cause {
             Cause::Out(_) => Verdict::Reuse,
             Cause::Claim(_) => Verdict::Claimed,
             Cause::Access { .. } => Verdict::Used,
+        }
+    }
+}
+
+impl StateChange for Cause {
+    ghost after = { λ cause i. (marked_if (verdict_of cause) (applies cause) i).state };
+
+    // With the cause's verdict, if it is of the item.
+    #[inline]
+    fn change(&self, item: &mut Held) {
+        if item.is_of_cause(self) {
+            item.state.give(self.verdict());
         }
     }
 }

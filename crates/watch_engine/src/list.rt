@@ -57,35 +57,25 @@ pub(crate) fn remember(held: &mut HeldList, live: &LastLive) -> Result<(), Alloc
     Ok(())
 }
 
-impl Held {
-    // No longer stale, if the tables of a new root have it again.
-    #[inline]
-    fn find_again<T: Tables>(&mut self, tables: &T, scheme: Scheme, root: u64)
-        ensures { self.new ≡ found_again (is_mapped scheme (T.words tables.now)) root self.old }
-    {
-        if self.state.since().is_some()
-            && self.entry.global
-            && is_mapped(tables, scheme, root, &self.entry)
-        {
-            self.state = State::Current;
-        }
-    }
-}
-
-// A hart comes to a root that is new.
+// Makes current what the tables of a new root have again.
 #[derive(Drop)]
-struct NewRoot<'a, T: Tables> {
+struct FindAgain<'a, T: Tables> {
     tables: &'a T,
     scheme: Scheme,
     root: u64,
 }
 
-impl<T: Tables> StateChange for NewRoot<'_, T> {
+impl<T: Tables> StateChange for FindAgain<'_, T> {
     ghost after = { λ c i. (found_again (is_mapped c.scheme (T.words c.tables.now)) c.root i).state };
 
     #[inline]
     fn change(&self, item: &mut Held) {
-        item.find_again(self.tables, self.scheme, self.root);
+        if item.state.since().is_some()
+            && item.entry.global
+            && is_mapped(self.tables, self.scheme, self.root, &item.entry)
+        {
+            item.state = State::Current;
+        }
     }
 }
 
@@ -101,7 +91,7 @@ pub(crate) fn find_again<T: Tables>(
         (items_of held.old.places.items) }
 {
     if let Some(root) = root {
-        held.change_all(&NewRoot {
+        held.change_all(&FindAgain {
             tables,
             scheme,
             root,
@@ -109,43 +99,25 @@ pub(crate) fn find_again<T: Tables>(
     }
 }
 
-impl Held {
-    // With what the tables have now, after a record that can only take from that.
-    #[inline]
-    fn settle_unless_stale<T: Tables>(
-        &mut self,
-        tables: &T,
-        scheme: Scheme,
-        roots: &[u64],
-        count: u64,
-    )
-        ensures { self.new ≡ settled_unless_stale (is_current_by
-            (is_mapped scheme (T.words tables.now)) roots.now (translation_of self.old)) count
-            self.old }
-    {
-        if matches!(self.state, State::Current) {
-            let current = is_current(tables, scheme, roots, self.root, &self.entry);
-            self.state.recheck(current, count);
-        }
-    }
-}
-
-// Something is taken from the tables, and nothing put to them.
+// Makes stale what the tables do not have any more, after a record that can only take from them.
 #[derive(Drop)]
-struct Taken<'a, T: Tables> {
+struct SettleUnlessStale<'a, T: Tables> {
     tables: &'a T,
     scheme: Scheme,
     roots: &'a [u64],
     count: u64,
 }
 
-impl<T: Tables> StateChange for Taken<'_, T> {
+impl<T: Tables> StateChange for SettleUnlessStale<'_, T> {
     ghost after = { λ c i. (settled_unless_stale (is_current_by
         (is_mapped c.scheme (T.words c.tables.now)) c.roots.now (translation_of i)) c.count i).state };
 
     #[inline]
     fn change(&self, item: &mut Held) {
-        item.settle_unless_stale(self.tables, self.scheme, self.roots, self.count);
+        if matches!(item.state, State::Current) {
+            let current = is_current(self.tables, self.scheme, self.roots, item.root, &item.entry);
+            item.state.recheck(current, self.count);
+        }
     }
 }
 
@@ -164,21 +136,12 @@ pub(crate) fn settle_taken<T: Tables>(
         (items_of held.old.places.items) else items_of held.old.places.items) }
 {
     if changed {
-        held.change_all(&Taken {
+        held.change_all(&SettleUnlessStale {
             tables,
             scheme,
             roots,
             count,
         });
-    }
-}
-
-impl StateChange for Cause {
-    ghost after = { λ cause i. (marked_if (verdict_of cause) (applies cause) i).state };
-
-    #[inline]
-    fn change(&self, item: &mut Held) {
-        item.mark_by(self);
     }
 }
 

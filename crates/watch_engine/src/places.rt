@@ -76,6 +76,7 @@ fn drop_with_key(
 }
 
 /// The sum of two counts of empty places, of which there are no more than places.
+#[tactic(auto, using(crate::proofs::EmptyPlaces::gone_within))]
 pub(crate) fn add_empty(places: &[Held], empty: usize, more: usize) -> usize
     ensures { (before : ℕ) → count_gone places.now ≤ before + (empty + more)
         → count_gone places.now ≤ before + result }

@@ -6,7 +6,7 @@ ghost use Rattle.watch.specs.Computed.{is_mapped};
 ghost use Rattle.watch.specs.Trace.{index_of};
 ghost use Rattle.watch_engine.specs.LastAnswer.{IsAnswered};
 ghost use Rattle.watch_engine.specs.Held.{is_current_by, translation_of};
-ghost use Rattle.watch_engine.specs.Touched.{asks, is_below, is_kept_after, is_touched, is_touched_on, settled_if};
+ghost use Rattle.watch_engine.specs.Touched.{asks, is_below, is_filled_again, is_kept_after, is_touched, is_touched_on, settled_if};
 ghost use Rattle.watch_engine.specs.State.{is_gone};
 ghost use Rattle.watch_engine.specs.Places.{AreFewGone, count_gone, has, items_of, turned};
 
@@ -104,8 +104,8 @@ impl Held {
         ensures item { self.new ≡ turned (λ i. (settled_if (is_touched scheme roots.now
             (index_of address) ways.now (translation_of i)) (is_current_by (is_mapped scheme
             (T.words tables.now)) roots.now (translation_of i)) count i).state)
-            (λ i. not (is_kept_after scheme (T.words tables.now) satps.now roots.now
-            (index_of address) ways.now i)) self.old }
+            (is_filled_again scheme (T.words tables.now) satps.now roots.now (index_of address)
+            ways.now) self.old }
     {
         if self.state.is_gone() {
             return true;
@@ -144,8 +144,8 @@ fn settle_each_touched<T: Tables>(
     ensures places { places.new ≡ map (turned (λ i. (settled_if (is_touched scheme roots.now
         (index_of address) ways.now (translation_of i)) (is_current_by (is_mapped scheme
         (T.words tables.now)) roots.now (translation_of i)) count i).state)
-        (λ i. not (is_kept_after scheme (T.words tables.now) satps.now roots.now
-        (index_of address) ways.now i))) places.old }
+        (is_filled_again scheme (T.words tables.now) satps.now roots.now (index_of address)
+        ways.now)) places.old }
 {
     let mut empty: usize = 0;
     let mut last = None;

@@ -1,12 +1,12 @@
 use Rattle.std.proofs.Common.{rules, arith, ◌+◌, ◌<◌, ◌≤◌, ◌≡◌, ◌∙◌, length, sym, ap, map, Bool, ◌++◌, append-nil, List, None, drop, get_or, take}
-use Rattle.std.specs.Prelude.{not, if◌then◌else◌}
+use Rattle.std.specs.Prelude.{if◌then◌else◌}
 use Rattle.std.proofs.lemmas.List.{drop_all, take-append-drop, take_all}
 use Rattle.std.proofs.lemmas.List.Edits.{map_over_more}
 use Rattle.watch.specs.Computed.{is_mapped}
 use Rattle.watch.specs.Trace.{index_of}
 use Rattle.watch_engine.specs.declared.held.Held.{Held}
 use Rattle.watch_engine.specs.Held.{is_current_by, translation_of}
-use Rattle.watch_engine.specs.Touched.{is_kept_after, is_touched, settled_if}
+use Rattle.watch_engine.specs.Touched.{is_filled_again, is_touched, settled_if}
 use Rattle.watch.specs.ComputedTraces.{is_live_in}
 use Rattle.watch_engine.specs.Places.{turned}
 use Rattle.watch_engine.specs.declared.state.State.{State}
@@ -35,8 +35,7 @@ loop-place-preserved g c =
     let touch : Held → Bool = λ i. is_touched c.args.scheme c.args.roots.now (index_of c.args.address) c.args.ways.now (translation_of i) in
     let current : Held → Bool = λ i. is_current_by (is_mapped c.args.scheme words) c.args.roots.now (translation_of i) in
     let after : Held → State = λ i. (settled_if (touch i) (current i) c.args.count i).state in
-    let kept : Held → Bool = is_kept_after c.args.scheme words c.args.satps.now c.args.roots.now (index_of c.args.address) c.args.ways.now in
-    let goes : Held → Bool = λ i. not (kept i) in
+    let goes : Held → Bool = is_filled_again c.args.scheme words c.args.satps.now c.args.roots.now (index_of c.args.address) c.args.ways.now in
     let turn : Held → Held = turned after goes in
     let at = c.loop-place.place in
     let old = c.args.places.now in
@@ -61,8 +60,7 @@ returns-clause-places g c =
     let touch : Held → Bool = λ i. is_touched c.args.scheme c.args.roots.now (index_of c.args.address) c.args.ways.now (translation_of i) in
     let current : Held → Bool = λ i. is_current_by (is_mapped c.args.scheme words) c.args.roots.now (translation_of i) in
     let after : Held → State = λ i. (settled_if (touch i) (current i) c.args.count i).state in
-    let kept : Held → Bool = is_kept_after c.args.scheme words c.args.satps.now c.args.roots.now (index_of c.args.address) c.args.ways.now in
-    let goes : Held → Bool = λ i. not (kept i) in
+    let goes : Held → Bool = is_filled_again c.args.scheme words c.args.satps.now c.args.roots.now (index_of c.args.address) c.args.ways.now in
     let turn : Held → Held = turned after goes in
     let long : length c.args.places.now ≤ c.loop-place.place = search rules in
     c.loop-place.invariant.places ∙ ((λ j. map turn (take_all c.loop-place.place c.args.places.now long j) ++ drop_all c.loop-place.place c.args.places.now long j) ∙ append-nil (map turn c.args.places.now))

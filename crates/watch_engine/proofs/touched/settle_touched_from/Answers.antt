@@ -1,10 +1,9 @@
 use Rattle.std.proofs.Common.{◌≡◌, ◌≤◌, ◌+◌, ◌++◌, ◌∙◌, arith, drop, length, sym, take, vec_len, Bool, List, ap, map}
-use Rattle.std.specs.Prelude.{not}
 use Rattle.watch.specs.Computed.{is_mapped}
 use Rattle.watch.specs.Trace.{index_of}
 use Rattle.watch_engine.specs.declared.held.Held.{Held}
 use Rattle.watch_engine.specs.Held.{is_current_by, translation_of}
-use Rattle.watch_engine.specs.Touched.{is_kept_after, is_touched, settled_if}
+use Rattle.watch_engine.specs.Touched.{is_filled_again, is_touched, settled_if}
 use Rattle.watch_engine.specs.declared.keys.By.TheVariants.{Frame, Page, Root}
 use Rattle.watch_engine.specs.Places.{count_gone, items_of, turned}
 use Rattle.watch_engine.specs.declared.state.State.{State}
@@ -13,7 +12,6 @@ use Rattle.watch_engine.specs.State.{is_gone}
 use Rattle.watch_engine.proofs.Lists.{each_of}
 use Rattle.watch_engine.proofs.Rechecks.{touched_stays}
 use Rattle.watch_engine.proofs.Placed.{mapped_whole, whole}
-use Rattle.watch_engine.proofs.Untouched.{filter_not}
 use Rattle.watch_engine.proofs.touched.settle_touched_from.Goals as goal
 
 pub returns-clause-left : goal.returns-clause-left
@@ -21,23 +19,19 @@ returns-clause-left g c =
     let words = g.T.Tables.words c.args.tables.now in
     let touch : Held → Bool = λ i. is_touched c.args.scheme c.args.roots.now (index_of c.args.address) c.args.ways.now (translation_of i) in
     let current : Held → Bool = λ i. is_current_by (is_mapped c.args.scheme words) c.args.roots.now (translation_of i) in
-    let f : Held → Held = λ i. settled_if (touch i) (current i) c.args.count i in
-    let after : Held → State = λ i. (f i).state in
-    let kept : Held → Bool = is_kept_after c.args.scheme words c.args.satps.now c.args.roots.now (index_of c.args.address) c.args.ways.now in
-    let goes : Held → Bool = λ i. not (kept i) in
+    let after : Held → State = λ i. (settled_if (touch i) (current i) c.args.count i).state in
+    let goes : Held → Bool = is_filled_again c.args.scheme words c.args.satps.now c.args.roots.now (index_of c.args.address) c.args.ways.now in
     let places : List Held = c.args.held.now.places.items in
     let mapped = mapped_whole (turned after goes) _ c.settle_each_touched-empty.new.places c.as_mut_slice.result.now places c.settle_each_touched-empty.ensures.places c.as_mut_slice.ensures.value c.as_mut_slice.ensures.len in
-    c.tidy.ensures.same ∙ (ap items_of mapped ∙ (items_turned after goes places (each_of (λ i. is_gone (after i) ≡ is_gone i.state) (λ i. touched_stays (touch i) (current i) c.args.count i.state) places) ∙ ap (map f) (filter_not kept (items_of places))))
+    c.tidy.ensures.same ∙ (ap items_of mapped ∙ items_turned after goes places (each_of (λ i. is_gone (after i) ≡ is_gone i.state) (λ i. touched_stays (touch i) (current i) c.args.count i.state) places))
 
 pub invariant_of-held : goal.invariant_of-held
 invariant_of-held g c =
     let words = g.T.Tables.words c.args.tables.now in
     let touch : Held → Bool = λ i. is_touched c.args.scheme c.args.roots.now (index_of c.args.address) c.args.ways.now (translation_of i) in
     let current : Held → Bool = λ i. is_current_by (is_mapped c.args.scheme words) c.args.roots.now (translation_of i) in
-    let f : Held → Held = λ i. settled_if (touch i) (current i) c.args.count i in
-    let after : Held → State = λ i. (f i).state in
-    let kept : Held → Bool = is_kept_after c.args.scheme words c.args.satps.now c.args.roots.now (index_of c.args.address) c.args.ways.now in
-    let goes : Held → Bool = λ i. not (kept i) in
+    let after : Held → State = λ i. (settled_if (touch i) (current i) c.args.count i).state in
+    let goes : Held → Bool = is_filled_again c.args.scheme words c.args.satps.now c.args.roots.now (index_of c.args.address) c.args.ways.now in
     let places : List Held = c.args.held.now.places.items in
     let mapped = mapped_whole (turned after goes) _ c.settle_each_touched-empty.new.places c.as_mut_slice.result.now places c.settle_each_touched-empty.ensures.places c.as_mut_slice.ensures.value c.as_mut_slice.ensures.len in
     let new : List Held = c.settle_each_touched-empty.new.places in
