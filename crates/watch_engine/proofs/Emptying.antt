@@ -71,13 +71,13 @@ key_stays Page s i = refl
 key_stays Frame s i = refl
 key_stays Root s i = refl
 
-pub keys_turned : (after : Held → State) (goes : Held → Bool) (by : By) (places : List Held) → map (key_of by) (map (turned after goes) places) ≡ map (key_of by) places
-keys_turned after goes by [] = refl
-keys_turned after goes by (i ∷ places) = λ j. key_stays by (cond (goes i) Gone (after i)) i j ∷ keys_turned after goes by places j
+pub keys_stay : (after : Held → State) (by : By) (places : List Held) → map (key_of by) (map (λ i. with_state (after i) i) places) ≡ map (key_of by) places
+keys_stay after by [] = refl
+keys_stay after by (i ∷ places) = λ j. key_stays by (after i) i j ∷ keys_stay after by places j
 
 -- a change of all leaves the keys as they were
-pub all_stay : (after : Held → State) (goes : Held → Bool) (by : By) (keys : List ℕ) (places now : List Held) → keys ≡ map (key_of by) places → now ≡ map (turned after goes) places → keys ≡ map (key_of by) now
-all_stay after goes by keys places now were is = were ∙ (sym (keys_turned after goes by places) ∙ ap (map (key_of by)) (sym is))
+pub all_stay : (after : Held → State) (by : By) (keys : List ℕ) (places now : List Held) → keys ≡ map (key_of by) places → now ≡ map (λ i. with_state (after i) i) places → keys ≡ map (key_of by) now
+all_stay after by keys places now were is = were ∙ (sym (keys_stay after by places) ∙ ap (map (key_of by)) (sym is))
 
 -- so does that of one, which keeps its root and its entry
 pub one_stays : (by : By) (keys : List ℕ) (places : List Held) (place : ℕ) (old new : Held) → keys ≡ map (key_of by) places → key_of by new ≡ key_of by (get_or places place old) → keys ≡ map (key_of by) (set places place new)

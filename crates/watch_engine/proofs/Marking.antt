@@ -14,8 +14,7 @@ use Rattle.watch_engine.specs.declared.held.LastLive.{LastLive}
 use Rattle.watch_engine.specs.declared.warning.Warning.{Warning}
 use Rattle.watch_engine.specs.Causes.{applies, is_given_by, verdict_of}
 use Rattle.watch_engine.specs.Held.{Each, is_exposed_by, is_given, is_of, last_translation, marked_if, remembered, remembered_all, with_state}
-use Rattle.watch_engine.specs.State.{given_too, is_gone}
-use Rattle.watch_engine.specs.Places.{items_of}
+use Rattle.watch_engine.specs.State.{given_too}
 use Rattle.watch_engine.specs.Warnings.{is_shown, joined, warning_of, with_warning}
 use Rattle.watch_engine.proofs.Placed.{touched}
 use Rattle.watch_engine.proofs.Rechecks.{given_again}

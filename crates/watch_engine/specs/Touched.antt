@@ -7,12 +7,14 @@ use Rattle.pte.specs.declared.address.TheConstants.{TABLE_LENGTH}
 use Rattle.pte.specs.Address.{Span, level_of, top_level, vpn_of}
 use Rattle.walk.specs.Leads.{Tables}
 use Rattle.watch.specs.declared.trace.Space.{Space}
+use Rattle.watch.specs.Computed.{is_mapped}
 use Rattle.watch.specs.ComputedTraces.{is_live_in}
 use Rattle.watch.specs.Holding.{Translation}
 use Rattle.watch_tables.specs.Ways.{vpn_from}
 use Rattle.watch_engine.specs.declared.held.Held.{Held}
 use Rattle.watch_tables.specs.declared.way.Way.{Way}
-use Rattle.watch_engine.specs.Held.{translation_of, with_state}
+use Rattle.watch_engine.specs.Held.{is_current_by, translation_of, with_state}
+use Rattle.watch_engine.specs.Places.{turned}
 use Rattle.watch_engine.specs.State.{rechecked}
 
 abbrev pub is_below : Scheme → ℕ → Span → Way → Bool
@@ -49,3 +51,11 @@ is_kept_after scheme words satps roots index ways i =
 abbrev pub settled_if : Bool → Bool → ℕ → Held → Held
 settled_if touched current now i =
     with_state (if touched then rechecked current now i.state else i.state) i
+
+-- what a store makes of it, by what the tables have then
+abbrev pub after_store : Scheme → Tables → List (Option Space) → List ℕ → ℕ → List Way → ℕ → Held → Held
+after_store scheme words satps roots index ways now i =
+    turned
+    (λ i. (settled_if (is_touched scheme roots index ways (translation_of i))
+    (is_current_by (is_mapped scheme words) roots (translation_of i)) now i).state)
+    (is_filled_again scheme words satps roots index ways) i

@@ -6,19 +6,19 @@ ghost use Rattle.watch.specs.Computed.{is_mapped};
 ghost use Rattle.watch.specs.Trace.{index_of};
 ghost use Rattle.watch_engine.specs.LastAnswer.{IsAnswered};
 ghost use Rattle.watch_engine.specs.Held.{is_current_by, translation_of};
-ghost use Rattle.watch_engine.specs.Touched.{asks, is_below, is_filled_again, is_kept_after, is_touched, is_touched_on, settled_if};
+ghost use Rattle.watch_engine.specs.Touched.{after_store, asks, is_below, is_kept_after, is_touched, is_touched_on, settled_if};
 ghost use Rattle.watch_engine.specs.State.{is_gone};
-ghost use Rattle.watch_engine.specs.Places.{AreFewGone, count_gone, has, items_of, turned};
+ghost use Rattle.watch_engine.specs.Places.{AreFewGone, count_gone, has, items_of};
 
 use crate::concern::Concern;
 use crate::held::Held;
 use crate::held_list::HeldList;
 use crate::last_answer::{LastAnswer, is_current_again};
 use crate::live::is_live_in;
+use crate::places::add_empty;
 use crate::roots::Roots;
 use crate::satps::satp_in;
 use crate::state::State;
-use crate::places::add_empty;
 use crate::tables::Tables;
 use pte::{PAGE_BYTES, Page, Scheme};
 use watch::Space;
@@ -101,11 +101,8 @@ impl Held {
         ensures last { IsAnswered (is_current_by (is_mapped scheme (T.words tables.now)) roots.now)
             last.new }
         ensures empty { result ≡ is_gone self.new.state }
-        ensures item { self.new ≡ turned (λ i. (settled_if (is_touched scheme roots.now
-            (index_of address) ways.now (translation_of i)) (is_current_by (is_mapped scheme
-            (T.words tables.now)) roots.now (translation_of i)) count i).state)
-            (is_filled_again scheme (T.words tables.now) satps.now roots.now (index_of address)
-            ways.now) self.old }
+        ensures item { self.new ≡ after_store scheme (T.words tables.now) satps.now roots.now
+            (index_of address) ways.now count self.old }
     {
         if self.state.is_gone() {
             return true;
@@ -141,11 +138,8 @@ fn settle_each_touched<T: Tables>(
     requires none { list_any (has (λ i. is_touched scheme roots.now (index_of address) ways.now
         (translation_of i))) (take first places.old) ≡ false }
     ensures gone { count_gone places.new ≤ count_gone places.old + result }
-    ensures places { places.new ≡ map (turned (λ i. (settled_if (is_touched scheme roots.now
-        (index_of address) ways.now (translation_of i)) (is_current_by (is_mapped scheme
-        (T.words tables.now)) roots.now (translation_of i)) count i).state)
-        (is_filled_again scheme (T.words tables.now) satps.now roots.now (index_of address)
-        ways.now)) places.old }
+    ensures places { places.new ≡ map (after_store scheme (T.words tables.now) satps.now roots.now
+        (index_of address) ways.now count) places.old }
 {
     let mut empty: usize = 0;
     let mut last = None;

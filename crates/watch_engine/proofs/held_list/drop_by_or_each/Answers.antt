@@ -3,7 +3,7 @@ use Rattle.watch_engine.specs.declared.held.Held.{Held}
 use Rattle.watch_engine.specs.Concerns.{concerns}
 use Rattle.watch_engine.specs.Keys.{key_of}
 use Rattle.watch_engine.specs.Places.{items_of}
-use Rattle.watch_engine.proofs.Emptying.{items_left, keys_turned}
+use Rattle.watch_engine.proofs.Emptying.{gone_at, items_left, keys_stay}
 use Rattle.watch_engine.proofs.held_list.drop_by_or_each.Goals as goal
 
 pub returns-in_default-clause-left : goal.returns-in_default-clause-left
@@ -16,4 +16,4 @@ pub returns-in_default-clause-keys : goal.returns-in_default-clause-keys
 returns-in_default-clause-keys c = λ by.
     let goes : Held → Bool = concerns c.args.concern.now in
     let walked : List Held = c.drop_by.new.places in
-    ap (map (key_of by)) c.drop_each.ensures.places ∙ (keys_turned (λ i. i.state) goes by walked ∙ c.drop_by.ensures.without.keys by)
+    ap (map (key_of by)) c.drop_each.ensures.places ∙ (keys_stay (λ i. (gone_at goes i).state) by walked ∙ c.drop_by.ensures.without.keys by)

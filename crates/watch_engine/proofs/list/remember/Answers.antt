@@ -1,5 +1,5 @@
 use Rattle.std.specs.Prelude.{OnOk}
-use Rattle.std.proofs.Common.{rules, ◌≡◌, ◌∙◌, length, sym, ap, subst, refl, arith, ◌++◌, ◌∷◌, [], List, get_or, set, vec_len}
+use Rattle.std.proofs.Common.{rules, ◌≡◌, ◌∙◌, length, sym, ap, subst, arith, List, get_or, set, vec_len}
 use Rattle.watch_engine.specs.declared.held.Held.{Held}
 use Rattle.watch_tables.specs.Ways.{later}
 use Rattle.watch_engine.specs.Held.{remembered}

@@ -1,4 +1,4 @@
-use Rattle.std.proofs.Common.{◌<◌, ◌∙◌, List, ◌++◌, ◌∷◌, [], length, subst, sym, true, false, rules}
+use Rattle.std.proofs.Common.{◌<◌, ◌∙◌, List, length, subst, sym, true, false, rules}
 use Rattle.std.proofs.lemmas.List.{get_or_default}
 use Rattle.std.proofs.lemmas.Result.{on_ok_weaker}
 use Rattle.watch_engine.specs.declared.held.Held.{Held}

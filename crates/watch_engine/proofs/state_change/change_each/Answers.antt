@@ -1,4 +1,4 @@
-use Rattle.std.proofs.Common.{ℕ, List, ◌+◌, ◌∷◌, arith, drop, take, add-one, rules, ◌<◌, ◌≤◌, ◌≡◌, ◌∙◌, length, sym, ap, get_or, map, subst, ◌++◌, append-nil}
+use Rattle.std.proofs.Common.{ℕ, List, ◌+◌, arith, drop, take, add-one, rules, ◌<◌, ◌≤◌, ◌≡◌, ◌∙◌, length, sym, ap, get_or, map, subst, ◌++◌, append-nil}
 use Rattle.std.proofs.lemmas.List.{drop_all, drop_more, get_or_at, length-map, length-take-le, take_all}
 use Rattle.std.proofs.lemmas.List.Edits.{map_over_more}
 use Rattle.watch_engine.specs.declared.held.Held.{Held}

@@ -1,15 +1,10 @@
-use Rattle.std.proofs.Common.{rules, arith, ◌+◌, ◌<◌, ◌≤◌, ◌≡◌, ◌∙◌, length, sym, ap, map, Bool, ◌++◌, append-nil, List, None, drop, get_or, take}
+use Rattle.std.proofs.Common.{rules, arith, ◌+◌, ◌<◌, ◌≤◌, ◌≡◌, ◌∙◌, length, sym, ap, map, Bool, ◌++◌, append-nil, List, drop, take}
 use Rattle.std.specs.Prelude.{if◌then◌else◌}
 use Rattle.std.proofs.lemmas.List.{drop_all, take-append-drop, take_all}
 use Rattle.std.proofs.lemmas.List.Edits.{map_over_more}
-use Rattle.watch.specs.Computed.{is_mapped}
 use Rattle.watch.specs.Trace.{index_of}
 use Rattle.watch_engine.specs.declared.held.Held.{Held}
-use Rattle.watch_engine.specs.Held.{is_current_by, translation_of}
-use Rattle.watch_engine.specs.Touched.{is_filled_again, is_touched, settled_if}
-use Rattle.watch.specs.ComputedTraces.{is_live_in}
-use Rattle.watch_engine.specs.Places.{turned}
-use Rattle.watch_engine.specs.declared.state.State.{State}
+use Rattle.watch_engine.specs.Touched.{after_store}
 use Rattle.watch_engine.proofs.Untouched.{same_places}
 use Rattle.watch_engine.proofs.EmptyPlaces.{gone_in, gone_set}
 use Rattle.watch_engine.proofs.touched.settle_each_touched.Goals.{then-is_empty, else-is_empty}
@@ -17,13 +12,9 @@ use Rattle.watch_engine.proofs.touched.settle_each_touched.Goals as goal
 
 pub loop-place-init : goal.loop-place-init
 loop-place-init g c =
-    let words = g.T.Tables.words c.args.tables.now in
-    let touch : Held → Bool = λ i. is_touched c.args.scheme c.args.roots.now (index_of c.args.address) c.args.ways.now (translation_of i) in
-    let current : Held → Bool = λ i. is_current_by (is_mapped c.args.scheme words) c.args.roots.now (translation_of i) in
-    let live : Held → Bool = λ i. is_live_in c.args.scheme words (get_or c.args.satps.now i.hart None) (translation_of i) in
     let front : List Held = take c.args.first c.args.places.now in
     record {
-      places = sym (ap (λ (l : List Held). l ++ drop c.args.first c.args.places.now) (same_places touch current live c.args.count front c.requires.none) ∙ take-append-drop c.args.first c.args.places.now);
+      places = sym (ap (λ (l : List Held). l ++ drop c.args.first c.args.places.now) (same_places c.args.scheme (g.T.Tables.words c.args.tables.now) c.args.satps.now c.args.roots.now (index_of c.args.address) c.args.ways.now c.args.count front c.requires.none) ∙ take-append-drop c.args.first c.args.places.now);
       last = tt;
       gone = omega arith;
       few = omega arith;
@@ -31,12 +22,7 @@ loop-place-init g c =
 
 pub loop-place-preserved : goal.loop-place-preserved
 loop-place-preserved g c =
-    let words = g.T.Tables.words c.args.tables.now in
-    let touch : Held → Bool = λ i. is_touched c.args.scheme c.args.roots.now (index_of c.args.address) c.args.ways.now (translation_of i) in
-    let current : Held → Bool = λ i. is_current_by (is_mapped c.args.scheme words) c.args.roots.now (translation_of i) in
-    let after : Held → State = λ i. (settled_if (touch i) (current i) c.args.count i).state in
-    let goes : Held → Bool = is_filled_again c.args.scheme words c.args.satps.now c.args.roots.now (index_of c.args.address) c.args.ways.now in
-    let turn : Held → Held = turned after goes in
+    let turn : Held → Held = after_store c.args.scheme (g.T.Tables.words c.args.tables.now) c.args.satps.now c.args.roots.now (index_of c.args.address) c.args.ways.now c.args.count in
     let at = c.loop-place.place in
     let old = c.args.places.now in
     let within : at < length old = search rules in
@@ -56,11 +42,6 @@ loop-place-preserved g c =
 
 pub returns-clause-places : goal.returns-clause-places
 returns-clause-places g c =
-    let words = g.T.Tables.words c.args.tables.now in
-    let touch : Held → Bool = λ i. is_touched c.args.scheme c.args.roots.now (index_of c.args.address) c.args.ways.now (translation_of i) in
-    let current : Held → Bool = λ i. is_current_by (is_mapped c.args.scheme words) c.args.roots.now (translation_of i) in
-    let after : Held → State = λ i. (settled_if (touch i) (current i) c.args.count i).state in
-    let goes : Held → Bool = is_filled_again c.args.scheme words c.args.satps.now c.args.roots.now (index_of c.args.address) c.args.ways.now in
-    let turn : Held → Held = turned after goes in
+    let turn : Held → Held = after_store c.args.scheme (g.T.Tables.words c.args.tables.now) c.args.satps.now c.args.roots.now (index_of c.args.address) c.args.ways.now c.args.count in
     let long : length c.args.places.now ≤ c.loop-place.place = search rules in
     c.loop-place.invariant.places ∙ ((λ j. map turn (take_all c.loop-place.place c.args.places.now long j) ++ drop_all c.loop-place.place c.args.places.now long j) ∙ append-nil (map turn c.args.places.now))

@@ -1,4 +1,4 @@
-use Rattle.std.proofs.Common.{◌≡◌, ◌∙◌, List, ap, arith, false, subst}
+use Rattle.std.proofs.Common.{◌≡◌, ◌∙◌, List, ap, arith, subst}
 use Rattle.watch_engine.specs.declared.held.Held.{Held}
 use Rattle.watch_engine.specs.declared.state.State.{State}
 use Rattle.watch_engine.specs.declared.keys.By.TheVariants.{Frame, Page, Root}
@@ -27,8 +27,8 @@ invariant_of-self g c =
     let count = ap (λ (l : List Held). count_gone l) whole in
     let same = gone_changed after places stay in
     record {
-      by_page = all_stay after (λ i. false) Page _ places _ c.args.self.now.by_page whole;
-      by_frame = all_stay after (λ i. false) Frame _ places _ c.args.self.now.by_frame whole;
-      by_root = all_stay after (λ i. false) Root _ places _ c.args.self.now.by_root whole;
+      by_page = all_stay after Page _ places _ c.args.self.now.by_page whole;
+      by_frame = all_stay after Frame _ places _ c.args.self.now.by_frame whole;
+      by_root = all_stay after Root _ places _ c.args.self.now.by_root whole;
       counted = omega (arith, count, same, c.args.self.now.counted);
     }
