@@ -4,7 +4,7 @@ use Rattle.std.specs.Prelude.{◌==◌, ◌&&◌, ◌||◌, cond, filter, not}
 use Rattle.std.specs.List.{list_any}
 use Rattle.std.proofs.Math.Seq.{map-set_same, take-suc}
 use Rattle.std.proofs.lemmas.Bool.{cases_Bool, eqb-true}
-use Rattle.std.proofs.lemmas.List.{append-nil, drop-set, drop_all, drop_more, length-map, length-set, map-append, take-map, take-take, take_all}
+use Rattle.std.proofs.lemmas.List.{append-nil, drop-set, drop-set-lt, drop_all, drop_more, get_or-set_same, length-map, length-set, map-append, take-map, take-take, take_all}
 use Rattle.watch_engine.specs.declared.held.Held.{Held}
 use Rattle.watch_engine.specs.declared.keys.By.{By}
 use Rattle.watch_engine.specs.Chains.{last_place}
@@ -18,7 +18,7 @@ use Rattle.watch_engine.specs.Held.{Each, with_state}
 use Rattle.std.proofs.lemmas.List.Elements.{filter-append}
 use Rattle.watch_engine.proofs.LastPlaces.{last_passes, last_within}
 use Rattle.watch_engine.proofs.Lists.{each_of, filter_same, map_same}
-use Rattle.watch_engine.proofs.Walks.{and_no, below, here, keyed, or_parts}
+use Rattle.watch_engine.proofs.Walks.{IsAt, and_no, keyed, next, or_parts}
 
 -- the items of places of which some are changed and others go
 items_first : (after : Held → State) (goes : Held → Bool) (i : Held) (gone : Bool) (new rest : List Held) → is_gone (after i) ≡ gone → items_of new ≡ map (λ i. with_state (after i) i) (filter (λ i. not (goes i)) rest)
@@ -144,61 +144,19 @@ without_at goes places n d h =
       none = λ by key none. none_left (key_of by) key goes places n d h none;
     }
 
--- none is behind the last place of the key among the first n, where none is behind these
-none_after : (f : Held → ℕ) (k : ℕ) (c : Held → Bool) (places : List Held) (d : Held) (n : ℕ) → n ≤ length places → list_any (keyed f k c) (drop n places) ≡ false
-    → list_any (keyed f k c) (drop (last_place k (take n (map f places))) places) ≡ false
-none_after f k c places d zero h none = none
-none_after f k c places d (suc n) h none =
-    elim (cases_Bool (f (get_or places n d) == k)) [
-      | inl fits ↦ subst (λ (m : ℕ). list_any (keyed f k c) (drop m places) ≡ false) (sym (here f k places n d (omega arith) fits)) none
-      | inr differs ↦
-          (let other : keyed f k c (get_or places n d) ≡ false = ap (λ (b : Bool). b && c (get_or places n d)) differs in
-          let next : n + 1 ≡ suc n = omega arith in
-          let from : list_any (keyed f k c) (drop n places) ≡ false =
-          ap (list_any (keyed f k c)) (drop_more places n d (omega arith))
-          ∙ ((λ j. other j || list_any (keyed f k c) (drop (next j) places)) ∙ none) in
-          subst (λ (m : ℕ). list_any (keyed f k c) (drop m places) ≡ false) (sym (below f k places n d (omega arith) differs)) (none_after f k c places d n (omega arith) from))
-    ]
-
--- a walk along the chain of a key is at a place, and none of those that it looks for is from there on
-pub record Clears (f : Held → ℕ) (k : ℕ) (c : Held → Bool) (places : List Held) (at : ℕ) : Type 0 where
-  pub within : at ≤ length places
-  pub key : 0 < at → get_or (map f places) (at - 1) 0 ≡ k
-  pub none : list_any (keyed f k c) (drop at places) ≡ false
-
-clears_from : (f : Held → ℕ) (k : ℕ) (c : Held → Bool) (places : List Held) (d : Held) (n : ℕ) → n ≤ length places → list_any (keyed f k c) (drop n places) ≡ false
-    → (at : ℕ) → at ≡ last_place k (take n (map f places)) → Clears f k c places at
-clears_from f k c places d n h none at is =
-    let long : length (map f places) ≡ length places = length-map places f in
-    let low : last_place k (take n (map f places)) ≤ n = last_within (λ j. j == k) (map f places) n (omega arith) in
-    record {
-      within = omega arith;
-      key = subst (λ (m : ℕ). 0 < m → get_or (map f places) (m - 1) 0 ≡ k) (sym is) (λ some. eqb-true _ _ (last_passes (λ j. j == k) (map f places) n (omega arith) some));
-      none = subst (λ (m : ℕ). list_any (keyed f k c) (drop m places) ≡ false) (sym is) (none_after f k c places d n h none);
-    }
-
-pub clears_first : (f : Held → ℕ) (k : ℕ) (c : Held → Bool) (places : List Held) (at : ℕ) → at ≡ last_place k (map f places) → Clears f k c places at
-clears_first f k c [] at is = record { within = omega arith; key = λ some. absurd (omega arith); none = ap (λ (m : ℕ). list_any (keyed f k c) (drop m [])) is }
-clears_first f k c (s ∷ places) at is =
-    let all : List Held = s ∷ places in
-    let long : length (map f (s ∷ places)) ≡ length (s ∷ places) = length-map (s ∷ places) f in
-    clears_from f k c (s ∷ places) s (length (s ∷ places)) (omega arith) (ap (list_any (keyed f k c)) (drop_all (length (s ∷ places)) (s ∷ places) (omega arith))) at
-    (is ∙ ap (last_place k) (sym (take_all (length (s ∷ places)) (map f (s ∷ places)) (omega arith))))
-
-pub clears_on : (f : Held → ℕ) (k : ℕ) (c : Held → Bool) (places : List Held) (at : ℕ) (s : Held) → Clears f k c places at → 0 < at → c s ≡ false
-    → map f (set places (at - 1) s) ≡ map f places
-    → (older : ℕ) → older ≡ last_place (get_or (map f places) (at - 1) 0) (take (at - 1) (map f places)) → Clears f k c (set places (at - 1) s) older
-clears_on f k c places at s w some misses same older is =
-    let n : ℕ = at - 1 in
-    let next : at - 1 + 1 ≡ at = omega arith in
+-- a walk goes on where the item of its place is changed, so that it is not looked for
+pub on_without : (f : Held → ℕ) (k : ℕ) (c : Held → Bool) (places : List Held) (at : ℕ) (s : Held) → IsAt f k c places at → 0 < at → c s ≡ false → map f (set places (at - 1) s) ≡ map f places
+    → (older : ℕ) → older ≡ last_place (get_or (map f places) (at - 1) 0) (take (at - 1) (map f places)) → IsAt f k c (set places (at - 1) s) older
+on_without f k c places at s w some misses same older is =
     let low : at - 1 < length places = omega (arith, w.within) in
-    let long : length (set places (at - 1) s) ≡ length places = length-set places (at - 1) s in
-    let none : list_any (keyed f k c) (drop (at - 1) (set places (at - 1) s)) ≡ false =
-    ap (list_any (keyed f k c)) (drop-set places (at - 1) s low)
-    ∙ ((λ j. ((f s == k) && misses j) || list_any (keyed f k c) (drop (next j) places))
-    ∙ ((λ j. and_no (f s == k) j || list_any (keyed f k c) (drop at places)) ∙ w.none)) in
-    clears_from f k c (set places (at - 1) s) s (at - 1) (omega arith) none older
-    (is ∙ (λ j. last_place (w.key some j) (take (at - 1) (sym same j))))
+    next f k c (set places (at - 1) s) at s
+    (record {
+      within = omega (arith, w.within, length-set places (at - 1) s);
+      key = λ some. ap (λ (ks : List ℕ). get_or ks (at - 1) 0) same ∙ w.key some;
+      none = ap (list_any (keyed f k c)) (drop-set-lt at places (at - 1) s (omega arith)) ∙ w.none;
+    })
+    some (ap c (get_or-set_same places (at - 1) s s low) ∙ misses) older
+    (is ∙ (λ j. last_place (get_or (sym same j) (at - 1) 0) (take (at - 1) (sym same j))))
 
 -- the keys up to a place, where the rest is cut off
 pub front_keys : (f : Held → ℕ) (n : ℕ) (keys : List ℕ) (places now : List Held) → keys ≡ map f places → now ≡ take n places → take n keys ≡ map f (take n now)

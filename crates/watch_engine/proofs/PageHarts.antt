@@ -1,5 +1,5 @@
 -- The harts of the items of a page, and what is remembered by them.
-use Rattle.std.proofs.Common.{◌≡◌, ℕ, Bool, true, false, ◌+◌, ◌-◌, ◌<◌, List, [], ◌∷◌, ◌++◌, length, map, replicate, take, get_or, ap, sym, ◌∙◌, refl, arith, zero, suc, inr}
+use Rattle.std.proofs.Common.{◌≡◌, ℕ, Bool, true, false, ◌+◌, ◌-◌, ◌<◌, List, [], ◌∷◌, ◌++◌, length, map, replicate, take, drop, get_or, ap, sym, ◌∙◌, refl, arith, zero, suc, inr}
 use Rattle.std.specs.Prelude.{◌==◌, ◌&&◌, ◌||◌, cond}
 use Rattle.std.specs.List.{list_any}
 use Rattle.std.proofs.lemmas.Bool.{and_from, and_parts, eq-eqb, eqb-true, false_from_ne_true, true≢false}
@@ -67,7 +67,7 @@ has_key page hart s is =
 pub gathered : (page : Span) (items : List Held) (at : ℕ) (harts : List Bool) → Gathers page items at harts → at ≡ 0 → AreHartsOf page (items_of items) harts
 gathered page items at harts all end = λ hart none.
     let keys : list_any (keyed (key_of Page) (page_key page) (on page hart)) items ≡ false =
-    (all.others hart none).any ∙ ap (λ (n : ℕ). list_any (keyed (key_of Page) (page_key page) (on page hart)) (take n items)) end in
+    ap (λ (n : ℕ). list_any (keyed (key_of Page) (page_key page) (on page hart)) (drop n items)) (sym end) ∙ (all.others hart none).none in
     sym (any_items (is_on_page page hart) items) ∙ none_among (key_of Page) (on page hart) 0 (λ n. n) (page_key page) items (λ n few. absurd (omega arith)) keys (λ s is. inr (has_key page hart s is))
 
 -- where no hart is left out, each item is of one of them

@@ -1,9 +1,9 @@
 -- Walks along the places of a key: what is not on them has other keys.
-use Rattle.std.proofs.Common.{◌≡◌, ℕ, Bool, true, false, zero, suc, ◌+◌, ◌-◌, ◌<◌, ◌≤◌, List, [], ◌∷◌, length, map, take, get_or, Option, Some, None, ◌++◌, ap, sym, subst, ◌∙◌, refl, arith, inl, inr, add-one}
+use Rattle.std.proofs.Common.{◌≡◌, ℕ, Bool, true, false, zero, suc, ◌+◌, ◌-◌, ◌<◌, ◌≤◌, List, [], ◌∷◌, length, map, take, drop, get_or, Option, Some, None, ◌++◌, ap, sym, subst, ◌∙◌, refl, arith, inl, inr, add-one}
 use Rattle.std.specs.Prelude.{◌==◌, ◌&&◌, ◌||◌, ◌⊎◌, cond, if◌then◌else◌}
 use Rattle.std.specs.List.{list_any}
 use Rattle.std.proofs.lemmas.Bool.{cases_Bool, eq-eqb, eqb-false, eqb-true, false_from_ne_true, true≢false}
-use Rattle.std.proofs.lemmas.List.{get_or-map, length-map, length-take-le, take_all}
+use Rattle.std.proofs.lemmas.List.{drop_all, drop_more, get_or-map, length-map, length-take-le, take_all}
 use Rattle.std.proofs.lemmas.List.Folds.{list_any_more}
 use Rattle.watch_engine.specs.declared.held.Held.{Held}
 use Rattle.std.proofs.Math.Seq.{take-suc}
@@ -60,42 +60,56 @@ any_from f k c items d (suc n) h =
           ∙ ap (λ (m : ℕ). list_any (keyed f k c) (take m items)) (sym (below f k items n d (omega arith) differs))))))
     ]
 
+-- none is behind the last place of the key among the first n, where none is behind these
+none_after : (f : Held → ℕ) (k : ℕ) (c : Held → Bool) (items : List Held) (d : Held) (n : ℕ) → n ≤ length items → list_any (keyed f k c) (drop n items) ≡ false
+    → list_any (keyed f k c) (drop (last_place k (take n (map f items))) items) ≡ false
+none_after f k c items d zero h none = none
+none_after f k c items d (suc n) h none =
+    elim (cases_Bool (f (get_or items n d) == k)) [
+      | inl fits ↦ subst (λ (m : ℕ). list_any (keyed f k c) (drop m items) ≡ false) (sym (here f k items n d (omega arith) fits)) none
+      | inr differs ↦
+          (let other : keyed f k c (get_or items n d) ≡ false = ap (λ (b : Bool). b && c (get_or items n d)) differs in
+          let next : n + 1 ≡ suc n = omega arith in
+          let from : list_any (keyed f k c) (drop n items) ≡ false =
+          ap (list_any (keyed f k c)) (drop_more items n d (omega arith))
+          ∙ ((λ j. other j || list_any (keyed f k c) (drop (next j) items)) ∙ none) in
+          subst (λ (m : ℕ). list_any (keyed f k c) (drop m items) ≡ false) (sym (below f k items n d (omega arith) differs)) (none_after f k c items d n (omega arith) from))
+    ]
+
 -- a walk for the items with a key that a test passes is at a place: none is from there on
 pub record IsAt (f : Held → ℕ) (k : ℕ) (c : Held → Bool) (items : List Held) (at : ℕ) : Type 0 where
   pub within : at ≤ length items
   pub key : 0 < at → get_or (map f items) (at - 1) 0 ≡ k
-  pub any : list_any (keyed f k c) items ≡ list_any (keyed f k c) (take at items)
+  pub none : list_any (keyed f k c) (drop at items) ≡ false
 
-at_last : (f : Held → ℕ) (k : ℕ) (c : Held → Bool) (items : List Held) (d : Held) (n : ℕ) → n ≤ length items
-    → list_any (keyed f k c) items ≡ list_any (keyed f k c) (take n items)
+at_last : (f : Held → ℕ) (k : ℕ) (c : Held → Bool) (items : List Held) (d : Held) (n : ℕ) → n ≤ length items → list_any (keyed f k c) (drop n items) ≡ false
     → (at : ℕ) → at ≡ last_place k (take n (map f items)) → IsAt f k c items at
-at_last f k c items d n h any at is =
+at_last f k c items d n h none at is =
     let long : length (map f items) ≡ length items = length-map items f in
     let low : last_place k (take n (map f items)) ≤ n = last_within (λ j. j == k) (map f items) n (omega arith) in
     record {
       within = omega arith;
       key = subst (λ (m : ℕ). 0 < m → get_or (map f items) (m - 1) 0 ≡ k) (sym is) (λ some. eqb-true _ _ (last_passes (λ j. j == k) (map f items) n (omega arith) some));
-      any = any ∙ (any_from f k c items d n h ∙ ap (λ (m : ℕ). list_any (keyed f k c) (take m items)) (sym is));
+      none = subst (λ (m : ℕ). list_any (keyed f k c) (drop m items) ≡ false) (sym is) (none_after f k c items d n h none);
     }
 
 pub start : (f : Held → ℕ) (k : ℕ) (c : Held → Bool) (items : List Held) (at : ℕ) → at ≡ last_place k (map f items) → IsAt f k c items at
-start f k c [] at is = record { within = omega arith; key = λ some. absurd (omega arith); any = ap (λ (m : ℕ). list_any (keyed f k c) (take m [])) (sym is) }
+start f k c [] at is = record { within = omega arith; key = λ some. absurd (omega arith); none = ap (λ (m : ℕ). list_any (keyed f k c) (drop m [])) is }
 start f k c (i ∷ items) at is =
     let long : length (map f (i ∷ items)) ≡ length (i ∷ items) = length-map (i ∷ items) f in
-    at_last f k c (i ∷ items) i (length (i ∷ items)) (omega arith) (ap (list_any (keyed f k c)) (sym (take_all (length (i ∷ items)) (i ∷ items) (omega arith)))) at
+    at_last f k c (i ∷ items) i (length (i ∷ items)) (omega arith) (ap (list_any (keyed f k c)) (drop_all (length (i ∷ items)) (i ∷ items) (omega arith))) at
     (is ∙ ap (last_place k) (sym (take_all (length (i ∷ items)) (map f (i ∷ items)) (omega arith))))
 
 pub next : (f : Held → ℕ) (k : ℕ) (c : Held → Bool) (items : List Held) (at : ℕ) (d : Held) → IsAt f k c items at → 0 < at → c (get_or items (at - 1) d) ≡ false
     → (older : ℕ) → older ≡ last_place (get_or (map f items) (at - 1) 0) (take (at - 1) (map f items)) → IsAt f k c items older
-next f k c items zero d w some misses older is = absurd (omega arith)
-next f k c items (suc n) d w some misses older is =
-    let back : suc n - 1 ≡ n = omega arith in
-    let h : n < length items = omega (arith, w.within) in
-    let none : keyed f k c (get_or items n d) ≡ false = ap (λ (b : Bool). (f (get_or items n d) == k) && b) (ap (λ (m : ℕ). c (get_or items m d)) (sym back) ∙ misses) ∙ and_no (f (get_or items n d) == k) in
-    at_last f k c items d n (omega arith)
-    (w.any ∙ (any_suc (keyed f k c) items n d h ∙ (ap (λ (b : Bool). list_any (keyed f k c) (take n items) || b) none ∙ or_no (list_any (keyed f k c) (take n items)))))
-    older
-    (is ∙ ((λ j. last_place (w.key some j) (take (suc n - 1) (map f items))) ∙ ap (λ (m : ℕ). last_place k (take m (map f items))) back))
+next f k c items at d w some misses older is =
+    let i : Held = get_or items (at - 1) d in
+    let on : at - 1 + 1 ≡ at = omega arith in
+    let none : list_any (keyed f k c) (drop (at - 1) items) ≡ false =
+    ap (list_any (keyed f k c)) (drop_more items (at - 1) d (omega (arith, w.within)))
+    ∙ ((λ j. ((f i == k) && misses j) || list_any (keyed f k c) (drop (on j) items))
+    ∙ ((λ j. and_no (f i == k) j || list_any (keyed f k c) (drop at items)) ∙ w.none)) in
+    at_last f k c items d (at - 1) (omega (arith, w.within)) none older (is ∙ (λ j. last_place (w.key some j) (take (at - 1) (map f items))))
 
 keyed_here : (f : Held → ℕ) (c : Held → Bool) (i : Held) (k : ℕ) → f i ≡ k → c i ≡ true → keyed f k c i ≡ true
 keyed_here f c i k e is = (λ j. eq-eqb _ _ e j && is j)
@@ -285,6 +299,15 @@ below_or_is n m h = elim (cases_Bool (n == m)) [
   | inr differs ↦ (let other = eqb-false _ _ differs in inl (omega arith))
 ]
 
+any_last : (f : Held → ℕ) (k : ℕ) (c : Held → Bool) (items : List Held) (at : ℕ) → at ≡ last_place k (map f items) → list_any (keyed f k c) items ≡ list_any (keyed f k c) (take at items)
+any_last f k c [] at is = ap (λ (m : ℕ). list_any (keyed f k c) (take m [])) (sym is)
+any_last f k c (i ∷ items) at is =
+    let long : length (map f (i ∷ items)) ≡ length (i ∷ items) = length-map (i ∷ items) f in
+    let n : ℕ = length (i ∷ items) in
+    ap (list_any (keyed f k c)) (sym (take_all n (i ∷ items) (omega arith)))
+    ∙ (any_from f k c (i ∷ items) i n (omega arith)
+    ∙ ap (λ (m : ℕ). list_any (keyed f k c) (take m (i ∷ items))) (ap (last_place k) (take_all n (map f (i ∷ items)) (omega arith)) ∙ sym is))
+
 -- a walk for the oldest item with a key that a test passes is at a place, and has found what is from there on
 pub record Seeks (f : Held → ℕ) (k : ℕ) (c : Held → Bool) (items : List Held) (at first : ℕ) : Type 0 where
   pub walk : IsAt f k (λ _. false) items at
@@ -296,7 +319,7 @@ seeks_first f k c items at first all is =
     record {
       walk = start f k (λ _. false) items at is;
       within = omega arith;
-      any = ap (list_any (keyed f k c)) (take_all first items (omega arith)) ∙ (start f k c items at is).any;
+      any = ap (list_any (keyed f k c)) (take_all first items (omega arith)) ∙ any_last f k c items at is;
     }
 
 pub seeks_on : (f : Held → ℕ) (k : ℕ) (c : Held → Bool) (items : List Held) (at : ℕ) (d : Held) (first : ℕ) → Seeks f k c items at first → 0 < at

@@ -5,8 +5,8 @@ use Rattle.watch_engine.specs.Chains.{last_place}
 use Rattle.watch_engine.specs.Concerns.{concerns}
 use Rattle.watch_engine.specs.Keys.{key_of}
 use Rattle.watch_engine.specs.Places.{IsWithout, has}
-use Rattle.watch_engine.proofs.Emptying.{clears_first, clears_on, gone_at, none_at, without_at, without_both, without_none}
-use Rattle.watch_engine.proofs.Walks.{smaller}
+use Rattle.watch_engine.proofs.Emptying.{gone_at, none_at, on_without, without_at, without_both, without_none}
+use Rattle.watch_engine.proofs.Walks.{smaller, start}
 use Rattle.watch_engine.proofs.EmptyPlaces.{gone_in, gone_set}
 use Rattle.watch_engine.proofs.places.drop_with_key.Goals.{then-drop_if, else-drop_if}
 use Rattle.watch_engine.proofs.places.drop_with_key.Goals as goal
@@ -19,7 +19,7 @@ loop-at-init c =
       without = without_none goes places;
       gone = omega arith;
       few = omega arith;
-      walk = clears_first (key_of c.args.by) c.args.key (has goes) places c.in-Some.newest (c.newest.ensures.found c.in-Some.newest c.in-Some.is ∙ ap (last_place c.args.key) c.requires.keys);
+      walk = start (key_of c.args.by) c.args.key (has goes) places c.in-Some.newest (c.newest.ensures.found c.in-Some.newest c.in-Some.is ∙ ap (last_place c.args.key) c.requires.keys);
     }
 
 pub loop-at-smaller : goal.loop-at-smaller
@@ -59,6 +59,6 @@ loop-at-preserved c =
       gone = omega (arith, c.loop-at.invariant.gone);
       few = omega (arith, c.loop-at.invariant.few);
       without = without_both goes c.args.places.now places (set places (at - 1) new) c.loop-at.invariant.without one;
-      walk = clears_on (key_of c.args.by) c.args.key (has goes) places at new c.loop-at.invariant.walk c.loop-at-test.true (ap (has goes) is ∙ none_at goes (get_or places (at - 1) d)) (one.keys c.args.by) c.in-Some-before.older
+      walk = on_without (key_of c.args.by) c.args.key (has goes) places at new c.loop-at.invariant.walk c.loop-at-test.true (ap (has goes) is ∙ none_at goes (get_or places (at - 1) d)) (one.keys c.args.by) c.in-Some-before.older
           (c.before-in-loop-at.ensures.found c.in-Some-before.older c.in-Some-before.is ∙ ap (λ (ks : List ℕ). last_place (get_or ks (at - 1) 0) (take (at - 1) ks)) keys);
     }
