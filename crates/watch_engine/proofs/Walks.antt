@@ -3,7 +3,7 @@ use Rattle.std.proofs.Common.{◌≡◌, ℕ, Bool, true, false, zero, suc, ◌+
 use Rattle.std.specs.Prelude.{◌==◌, ◌&&◌, ◌||◌, ◌⊎◌, cond, if◌then◌else◌}
 use Rattle.std.specs.List.{list_any}
 use Rattle.std.proofs.lemmas.Bool.{cases_Bool, eq-eqb, eqb-false, eqb-true, false_from_ne_true, true≢false}
-use Rattle.std.proofs.lemmas.List.{drop_all, drop_more, get_or-map, length-map, length-take-le, take_all}
+use Rattle.std.proofs.lemmas.List.{drop_all, drop_more, get_or-map, get_or-take, length-map, length-take-le, take-map, take-take, take_all}
 use Rattle.std.proofs.lemmas.List.Folds.{list_any_more}
 use Rattle.watch_engine.specs.declared.held.Held.{Held}
 use Rattle.std.proofs.Math.Seq.{take-suc}
@@ -25,10 +25,6 @@ below f k items n d h differs =
     (λ e. true≢false (sym (eq-eqb _ _ (sym (get_or-map f items n d 0 h) ∙ (ap (λ (m : ℕ). get_or (map f items) m 0) (sym is) ∙ e))) ∙ differs))
     ∙ ap (λ (m : ℕ). last_place k (take m (map f items))) is
 
-pub or_no : (b : Bool) → (b || false) ≡ b
-or_no true = refl
-or_no false = refl
-
 pub and_no : (b : Bool) → (b && false) ≡ false
 and_no true = refl
 and_no false = refl
@@ -40,25 +36,6 @@ or_parts false b e = (refl, e)
 -- of the items with the key
 abbrev pub keyed : (Held → ℕ) → ℕ → (Held → Bool) → Held → Bool
 keyed f k c i = (f i == k) && c i
-
-any_suc : (t : Held → Bool) (items : List Held) (n : ℕ) (d : Held) → n < length items → list_any t (take (suc n) items) ≡ (list_any t (take n items) || t (get_or items n d))
-any_suc t items n d h = ap (λ (m : ℕ). list_any t (take m items)) (sym (add-one n)) ∙ list_any_more t items n d h
-
--- none after the last place of the key among the first n
-any_from : (f : Held → ℕ) (k : ℕ) (c : Held → Bool) (items : List Held) (d : Held) (n : ℕ) → n ≤ length items
-    → list_any (keyed f k c) (take n items) ≡ list_any (keyed f k c) (take (last_place k (take n (map f items))) items)
-any_from f k c items d zero h = refl
-any_from f k c items d (suc n) h =
-    elim (cases_Bool (f (get_or items n d) == k)) [
-      | inl fits ↦ ap (λ (m : ℕ). list_any (keyed f k c) (take m items)) (sym (here f k items n d (omega arith) fits))
-      | inr differs ↦
-          (let none : keyed f k c (get_or items n d) ≡ false = ap (λ (b : Bool). b && c (get_or items n d)) differs in
-          any_suc (keyed f k c) items n d (omega arith)
-          ∙ (ap (λ (b : Bool). list_any (keyed f k c) (take n items) || b) none
-          ∙ (or_no (list_any (keyed f k c) (take n items))
-          ∙ (any_from f k c items d n (omega arith)
-          ∙ ap (λ (m : ℕ). list_any (keyed f k c) (take m items)) (sym (below f k items n d (omega arith) differs))))))
-    ]
 
 -- none is behind the last place of the key among the first n, where none is behind these
 none_after : (f : Held → ℕ) (k : ℕ) (c : Held → Bool) (items : List Held) (d : Held) (n : ℕ) → n ≤ length items → list_any (keyed f k c) (drop n items) ≡ false
@@ -299,48 +276,31 @@ below_or_is n m h = elim (cases_Bool (n == m)) [
   | inr differs ↦ (let other = eqb-false _ _ differs in inl (omega arith))
 ]
 
-any_last : (f : Held → ℕ) (k : ℕ) (c : Held → Bool) (items : List Held) (at : ℕ) → at ≡ last_place k (map f items) → list_any (keyed f k c) items ≡ list_any (keyed f k c) (take at items)
-any_last f k c [] at is = ap (λ (m : ℕ). list_any (keyed f k c) (take m [])) (sym is)
-any_last f k c (i ∷ items) at is =
-    let long : length (map f (i ∷ items)) ≡ length (i ∷ items) = length-map (i ∷ items) f in
-    let n : ℕ = length (i ∷ items) in
-    ap (list_any (keyed f k c)) (sym (take_all n (i ∷ items) (omega arith)))
-    ∙ (any_from f k c (i ∷ items) i n (omega arith)
-    ∙ ap (λ (m : ℕ). list_any (keyed f k c) (take m (i ∷ items))) (ap (last_place k) (take_all n (map f (i ∷ items)) (omega arith)) ∙ sym is))
-
 -- a walk for the oldest item with a key that a test passes is at a place, and has found what is from there on
 pub record Seeks (f : Held → ℕ) (k : ℕ) (c : Held → Bool) (items : List Held) (at first : ℕ) : Type 0 where
-  pub walk : IsAt f k (λ _. false) items at
+  pub reached : at ≤ first
   pub within : first ≤ length items
-  pub any : list_any (keyed f k c) (take first items) ≡ list_any (keyed f k c) (take at items)
+  pub walk : IsAt f k c (take first items) at
 
 pub seeks_first : (f : Held → ℕ) (k : ℕ) (c : Held → Bool) (items : List Held) (at first : ℕ) → first ≡ length items → at ≡ last_place k (map f items) → Seeks f k c items at first
 seeks_first f k c items at first all is =
-    record {
-      walk = start f k (λ _. false) items at is;
-      within = omega arith;
-      any = ap (list_any (keyed f k c)) (take_all first items (omega arith)) ∙ any_last f k c items at is;
-    }
+    let walk = start f k c items at is in
+    record { reached = omega (arith, walk.within); within = omega arith; walk = subst (λ (l : List Held). IsAt f k c l at) (sym (take_all first items (omega arith))) walk }
 
 pub seeks_on : (f : Held → ℕ) (k : ℕ) (c : Held → Bool) (items : List Held) (at : ℕ) (d : Held) (first : ℕ) → Seeks f k c items at first → 0 < at
     → (older : ℕ) → older ≡ last_place (get_or (map f items) (at - 1) 0) (take (at - 1) (map f items))
     → Seeks f k c items older (if c (get_or items (at - 1) d) then at - 1 else first)
-seeks_on f k c items zero d first w some older is = absurd (omega arith)
-seeks_on f k c items (suc n) d first w some older is =
-    let back : suc n - 1 ≡ n = omega arith in
-    let h : n < length items = omega (arith, w.walk.within) in
-    let key : last_place k (take n (map f items)) ≡ older =
-    sym (is ∙ ((λ j. last_place (w.walk.key some j) (take (suc n - 1) (map f items))) ∙ ap (λ (m : ℕ). last_place k (take m (map f items))) back)) in
-    let rest : list_any (keyed f k c) (take n items) ≡ list_any (keyed f k c) (take older items) = any_from f k c items d n (omega arith) ∙ ap (λ (m : ℕ). list_any (keyed f k c) (take m items)) key in
-    let walk = next f k (λ _. false) items (suc n) d w.walk some refl older is in
-    let go : (b : Bool) → c (get_or items n d) ≡ b → Seeks f k c items older (if b then n else first) = λ b. elim b as (λ b. c (get_or items n d) ≡ b → Seeks f k c items older (if b then n else first)) [
-      | true ↦ λ t. record { walk = walk; within = omega arith; any = rest }
-      | false ↦ λ t. record {
-        walk = walk;
-        within = w.within;
-        any =
-            (let none : keyed f k c (get_or items n d) ≡ false = ap (λ (b : Bool). (f (get_or items n d) == k) && b) t ∙ and_no (f (get_or items n d) == k) in
-            w.any ∙ (any_suc (keyed f k c) items n d h ∙ (ap (λ (b : Bool). list_any (keyed f k c) (take n items) || b) none ∙ (or_no (list_any (keyed f k c) (take n items)) ∙ rest))));
-      }
+seeks_on f k c items at d first w some older is =
+    let low : at - 1 < first = omega (arith, w.reached) in
+    let keys : take first (map f items) ≡ map f (take first items) = take-map f first items in
+    let key : get_or (map f items) (at - 1) 0 ≡ k = sym (get_or-take first (map f items) (at - 1) 0 low) ∙ (ap (λ (ks : List ℕ). get_or ks (at - 1) 0) keys ∙ w.walk.key some) in
+    let go : (b : Bool) → c (get_or items (at - 1) d) ≡ b → Seeks f k c items older (if b then at - 1 else first) = λ b. elim b as (λ b. c (get_or items (at - 1) d) ≡ b → Seeks f k c items older (if b then at - 1 else first)) [
+      | true ↦ λ t.
+          let walk = start f k c (take (at - 1) items) older (is ∙ (λ j. last_place (key j) (take-map f (at - 1) items j))) in
+          record { reached = omega (arith, walk.within, length-take-le (at - 1) items (omega (arith, w.within))); within = omega (arith, w.within); walk = walk }
+      | false ↦ λ t.
+          let front : take (at - 1) (map f items) ≡ take (at - 1) (map f (take first items)) = sym (take-take (at - 1) first (map f items) (omega arith)) ∙ ap (take (at - 1)) keys in
+          let walk = next f k c (take first items) at d w.walk some (ap c (get_or-take first items (at - 1) d low) ∙ t) older (is ∙ (λ j. last_place ((key ∙ sym (w.walk.key some)) j) (front j))) in
+          record { reached = omega (arith, walk.within, length-take-le first items w.within); within = w.within; walk = walk }
     ] in
-    subst (λ (m : ℕ). Seeks f k c items older (if c (get_or items m d) then m else first)) (sym back) (go (c (get_or items n d)) refl)
+    go (c (get_or items (at - 1) d)) refl

@@ -1,4 +1,4 @@
-use Rattle.std.proofs.Common.{◌≡◌, ◌-◌, ◌∙◌, ℕ, Bool, List, ap, get_or, length, subst, sym, take}
+use Rattle.std.proofs.Common.{arith, ◌≡◌, ◌-◌, ◌∙◌, ℕ, Bool, List, ap, get_or, length, subst, sym, take}
 use Rattle.std.specs.Prelude.{if◌then◌else◌}
 use Rattle.watch_engine.specs.declared.held.Held.{Held}
 use Rattle.watch_engine.specs.Chains.{last_place}
@@ -18,7 +18,7 @@ loop-at-init c =
 pub loop-at-smaller : goal.loop-at-smaller
 loop-at-smaller c =
     let at : ℕ = c.loop-at.at in
-    smaller c.args.self.now.places.items (key_of c.args.by) at c.in-Some-before.older c.loop-at-test.true c.loop-at.invariant.walk.within
+    smaller c.args.self.now.places.items (key_of c.args.by) at c.in-Some-before.older c.loop-at-test.true (omega (arith, c.loop-at.invariant.reached, c.loop-at.invariant.within))
     (c.before-in-loop-at.ensures.found c.in-Some-before.older c.in-Some-before.is ∙ ap (λ (ks : List ℕ). last_place (get_or ks (at - 1) 0) (take (at - 1) ks)) c.chains-chains.ensures)
 
 pub loop-at-preserved : goal.loop-at-preserved
