@@ -1,10 +1,9 @@
 -- Places whose items go: what is left, and where chains still lead.
-use Rattle.std.proofs.Common.{◌≡◌, ℕ, Bool, true, false, zero, suc, ◌+◌, ◌-◌, ◌<◌, ◌≤◌, List, [], ◌∷◌, ◌++◌, length, map, take, drop, get_or, set, ap, sym, subst, ◌∙◌, refl, arith, inl, inr}
+use Rattle.std.proofs.Common.{◌≡◌, ℕ, Bool, true, false, zero, suc, ◌-◌, ◌<◌, List, [], ◌∷◌, ◌++◌, length, map, take, get_or, set, ap, sym, ◌∙◌, refl, arith}
 use Rattle.std.specs.Prelude.{◌==◌, ◌&&◌, ◌||◌, cond, filter, not}
 use Rattle.std.specs.List.{list_any}
 use Rattle.std.proofs.Math.Seq.{map-set_same, take-suc}
-use Rattle.std.proofs.lemmas.Bool.{cases_Bool, eqb-true}
-use Rattle.std.proofs.lemmas.List.{append-nil, drop-set, drop-set-lt, drop_all, drop_more, get_or-set_same, length-map, length-set, map-append, take-map, take-take, take_all}
+use Rattle.std.proofs.lemmas.List.{append-nil, drop-set-lt, get_or-set_same, length-set, map-append, take-map, take-take}
 use Rattle.watch_engine.specs.declared.held.Held.{Held}
 use Rattle.watch_engine.specs.declared.keys.By.{By}
 use Rattle.watch_engine.specs.Chains.{last_place}
@@ -16,7 +15,6 @@ use Rattle.watch_engine.specs.declared.state.State.TheVariants.{Gone}
 use Rattle.watch_engine.specs.declared.keys.By.TheVariants.{Frame, Page, Root}
 use Rattle.watch_engine.specs.Held.{Each, with_state}
 use Rattle.std.proofs.lemmas.List.Elements.{filter-append}
-use Rattle.watch_engine.proofs.LastPlaces.{last_passes, last_within}
 use Rattle.watch_engine.proofs.Lists.{each_of, filter_same, map_same}
 use Rattle.watch_engine.proofs.Walks.{IsAt, and_no, keyed, next, or_parts}
 

@@ -4,7 +4,6 @@ use Rattle.std.specs.Prelude.{◌==◌, ◌&&◌, ◌||◌, ◌⊎◌, cond, if�
 use Rattle.std.specs.List.{list_any}
 use Rattle.std.proofs.lemmas.Bool.{cases_Bool, eq-eqb, eqb-false, eqb-true, false_from_ne_true, true≢false}
 use Rattle.std.proofs.lemmas.List.{drop_all, drop_more, get_or-map, get_or-take, length-map, length-take-le, take-map, take-take, take_all}
-use Rattle.std.proofs.lemmas.List.Folds.{list_any_more}
 use Rattle.watch_engine.specs.declared.held.Held.{Held}
 use Rattle.std.proofs.Math.Seq.{take-suc}
 use Rattle.watch_engine.specs.Chains.{IsFirst, IsNext, bucket_of, last_place}

@@ -32,21 +32,15 @@ invariant_of-self-clause-counted c =
 
 pub invariant_of-self-clause-by_page : goal.invariant_of-self-clause-by_page
 invariant_of-self-clause-by_page c =
-    let places : List Held = c.args.self.now.places.items in
-    let more : c.push.new.self.items ≡ places ++ c.from_live-item.result ∷ [] = search rules in
-    keys_append Page c.push_keys-keyed.new.pages.keys.items c.args.self.now.pages.keys.items places c.push.new.self.items c.from_live-item.result
-    (ok_then c.push_keys-keyed.result _ (sym c.is_ok.ensures.value ∙ c.if-is_ok.true) c.push_keys-keyed.ensures.pages) c.args.self.now.by_page more
+    keys_append Page _ _ c.args.self.now.places.items _ c.from_live-item.result
+    (ok_then c.push_keys-keyed.result _ (sym c.is_ok.ensures.value ∙ c.if-is_ok.true) c.push_keys-keyed.ensures.pages) c.args.self.now.by_page (search rules)
 
 pub invariant_of-self-clause-by_frame : goal.invariant_of-self-clause-by_frame
 invariant_of-self-clause-by_frame c =
-    let places : List Held = c.args.self.now.places.items in
-    let more : c.push.new.self.items ≡ places ++ c.from_live-item.result ∷ [] = search rules in
-    keys_append Frame c.push_keys-keyed.new.frames.keys.items c.args.self.now.frames.keys.items places c.push.new.self.items c.from_live-item.result
-    (ok_then c.push_keys-keyed.result _ (sym c.is_ok.ensures.value ∙ c.if-is_ok.true) c.push_keys-keyed.ensures.frames) c.args.self.now.by_frame more
+    keys_append Frame _ _ c.args.self.now.places.items _ c.from_live-item.result
+    (ok_then c.push_keys-keyed.result _ (sym c.is_ok.ensures.value ∙ c.if-is_ok.true) c.push_keys-keyed.ensures.frames) c.args.self.now.by_frame (search rules)
 
 pub invariant_of-self-clause-by_root : goal.invariant_of-self-clause-by_root
 invariant_of-self-clause-by_root c =
-    let places : List Held = c.args.self.now.places.items in
-    let more : c.push.new.self.items ≡ places ++ c.from_live-item.result ∷ [] = search rules in
-    keys_append Root c.push_keys-keyed.new.roots.keys.items c.args.self.now.roots.keys.items places c.push.new.self.items c.from_live-item.result
-    (ok_then c.push_keys-keyed.result _ (sym c.is_ok.ensures.value ∙ c.if-is_ok.true) c.push_keys-keyed.ensures.roots) c.args.self.now.by_root more
+    keys_append Root _ _ c.args.self.now.places.items _ c.from_live-item.result
+    (ok_then c.push_keys-keyed.result _ (sym c.is_ok.ensures.value ∙ c.if-is_ok.true) c.push_keys-keyed.ensures.roots) c.args.self.now.by_root (search rules)
