@@ -68,8 +68,8 @@ impl Held {
         match claim {
             None => false,
             Some(begun) => {
-                is_claimed(&begun.claim, self.root, &self.entry)
-                    && is_by(self.state.since(), begun.begun)
+                is_by(self.state.since(), begun.begun)
+                    && is_claimed(&begun.claim, self.root, &self.entry)
             }
         }
     }
@@ -134,7 +134,7 @@ impl StateChange for Cause {
 
     // With the cause's verdict, if it is of the item.
     #[inline]
-    fn change(&self, item: &mut Held) {
+    fn apply(&self, item: &mut Held) {
         if item.is_of_cause(self) {
             item.state.give(self.verdict());
         }

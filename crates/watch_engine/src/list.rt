@@ -69,7 +69,7 @@ impl<T: Tables> StateChange for FindAgain<'_, T> {
     ghost after = { λ c i. (found_again (is_mapped c.scheme (T.words c.tables.now)) c.root i).state };
 
     #[inline]
-    fn change(&self, item: &mut Held) {
+    fn apply(&self, item: &mut Held) {
         if item.state.since().is_some()
             && item.entry.global
             && is_mapped(self.tables, self.scheme, self.root, &item.entry)
@@ -113,7 +113,7 @@ impl<T: Tables> StateChange for SettleUnlessStale<'_, T> {
         (is_mapped c.scheme (T.words c.tables.now)) c.roots.now (translation_of i)) c.count i).state };
 
     #[inline]
-    fn change(&self, item: &mut Held) {
+    fn apply(&self, item: &mut Held) {
         if matches!(item.state, State::Current) {
             let current = is_current(self.tables, self.scheme, self.roots, item.root, &item.entry);
             item.state.recheck(current, self.count);

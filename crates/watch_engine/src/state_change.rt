@@ -14,7 +14,7 @@ pub(crate) trait StateChange {
     ghost after: { Self → HeldOf → StateOf };
 
     /// Changes the state of an item.
-    fn change(&self, item: &mut Held)
+    fn apply(&self, item: &mut Held)
         ensures state { item.new ≡ with_state (after self.now item.old) item.old }
         ensures stays { is_gone item.new.state ≡ is_gone item.old.state };
 }
@@ -25,6 +25,6 @@ pub(crate) fn change_each<C: StateChange>(items: &mut [Held], change: &C)
     ensures stay { Each (λ i. is_gone (C.after change.now i) ≡ is_gone i.state) items.old }
 {
     for item in items.iter_mut() {
-        change.change(item);
+        change.apply(item);
     }
 }

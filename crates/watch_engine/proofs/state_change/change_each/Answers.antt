@@ -20,9 +20,9 @@ loop-item-preserved g c =
     let old : Held = c.item-item.result in
     let within : at < length c.args.items.now = search rules in
     let read : get_or c.loop-item.items at old ≡ get_or c.args.items.now at old = unchanged f c.args.items.now c.loop-item.items at old within c.loop-item.invariant.items in
-    let new : c.change.new.item ≡ f old = c.change.ensures.state ∙ ap f (sym c.item-item.is) in
+    let new : c.apply.new.item ≡ f old = c.apply.ensures.state ∙ ap f (sym c.item-item.is) in
     let stays : is_gone (f (get_or c.args.items.now at old)).state ≡ is_gone (get_or c.args.items.now at old).state =
-    subst (λ (i : Held). is_gone (f i).state ≡ is_gone i.state) read (sym (ap (λ (i : Held). is_gone i.state) c.change.ensures.state) ∙ c.change.ensures.stays) in
+    subst (λ (i : Held). is_gone (f i).state ≡ is_gone i.state) read (sym (ap (λ (i : Held). is_gone i.state) c.apply.ensures.state) ∙ c.apply.ensures.stays) in
     record {
       items = rw new (map_over_more f c.args.items.now c.loop-item.items at old within c.loop-item.invariant.items c.item-item.is);
       stay = subst (λ (n : ℕ). Each (λ i. is_gone (f i).state ≡ is_gone i.state) (take n c.args.items.now)) (sym (add-one at))
