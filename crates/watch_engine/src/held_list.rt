@@ -123,30 +123,29 @@ fn drop_by(
     }
 }
 
-// Drops the items with one of the keys that the record concerns, where no others are: along their chains,
-// or over the whole list once the steps are used up. How many places are empty then of those that were
-// looked at.
-fn drop_by_or_each(
+// Drops the items that the record concerns: along the chains of their keys where these are few, and else, or
+// once the steps are used up, over the whole list. How many places are empty then of those that were looked
+// at.
+fn drop_concerned(
     places: &mut [Held],
     pages: &Chains,
     frames: &Chains,
     roots: &Chains,
-    keys: &Keys,
     concern: &Concern,
     steps: &mut usize,
 ) -> usize
-    requires small { AreSmall keys.now }
     requires pages { pages.now.keys.items ≡ map (key_of Page) places.old }
     requires frames { frames.now.keys.items ≡ map (key_of Frame) places.old }
     requires roots { roots.now.keys.items ≡ map (key_of Root) places.old }
-    requires all { (i : HeldOf) → concerns concern.now i ≡ true
-        → IsAmong keys.now (key_of keys.now.by i) }
     ensures left { items_of places.new
         ≡ filter (λ i. not (concerns concern.now i)) (items_of places.old) }
     ensures keys { (by : ByOf) → map (key_of by) places.new ≡ map (key_of by) places.old }
     ensures gone { count_gone places.new ≤ count_gone places.old + result }
 {
-    let Some(empty) = drop_by(places, pages, frames, roots, keys, concern, steps) else {
+    let Some(keys) = concern.keys() else {
+        return drop_each(places, concern);
+    };
+    let Some(empty) = drop_by(places, pages, frames, roots, &keys, concern, steps) else {
         return drop_each(places, concern);
     };
     empty
@@ -344,40 +343,6 @@ impl HeldList {
         }
     }
 
-    // Without the items with these keys that the record concerns.
-    fn drop_few(&mut self, keys: &Keys, concern: &Concern)
-        requires small { AreSmall keys.now }
-        requires all { (i : HeldOf) → concerns concern.now i ≡ true
-            → IsAmong keys.now (key_of keys.now.by i) }
-        ensures left { items_of self.new.places.items
-            ≡ filter (λ i. not (concerns concern.now i)) (items_of self.old.places.items) }
-        ensures few { AreFewGone self.new.places.items }
-    {
-        let mut steps = self.chain_steps();
-        let empty = drop_by_or_each(
-            self.places.as_mut_slice(),
-            &self.pages,
-            &self.frames,
-            &self.roots,
-            keys,
-            concern,
-            &mut steps,
-        );
-        self.empty = add_empty(self.places.as_slice(), self.empty, empty);
-        self.tidy();
-    }
-
-    // The same, where all items are looked at.
-    fn drop_all(&mut self, concern: &Concern)
-        ensures left { items_of self.new.places.items
-            ≡ filter (λ i. not (concerns concern.now i)) (items_of self.old.places.items) }
-        ensures few { AreFewGone self.new.places.items }
-    {
-        let empty = drop_each(self.places.as_mut_slice(), concern);
-        self.empty = add_empty(self.places.as_slice(), self.empty, empty);
-        self.tidy();
-    }
-
     /// With the state of each item changed.
     pub(crate) fn change_all<C: StateChange>(&mut self, change: &C)
         ensures { items_of self.new.places.items
@@ -392,9 +357,16 @@ impl HeldList {
             ≡ filter (λ i. not (concerns concern.now i)) (items_of self.old.places.items) }
         ensures few { AreFewGone self.new.places.items }
     {
-        match concern.keys() {
-            None => self.drop_all(concern),
-            Some(keys) => self.drop_few(&keys, concern),
-        }
+        let mut steps = self.chain_steps();
+        let empty = drop_concerned(
+            self.places.as_mut_slice(),
+            &self.pages,
+            &self.frames,
+            &self.roots,
+            concern,
+            &mut steps,
+        );
+        self.empty = add_empty(self.places.as_slice(), self.empty, empty);
+        self.tidy();
     }
 }
