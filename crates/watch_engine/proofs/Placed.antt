@@ -3,7 +3,7 @@ use Rattle.std.proofs.Common.{◌≡◌, ℕ, Bool, true, false, ◌+◌, ◌/�
 use Rattle.std.specs.Prelude.{◌==◌, ◌&&◌, cond, not}
 use Rattle.std.proofs.lemmas.Bool.{true≢false}
 use Rattle.std.specs.Int.{bit_at}
-use Rattle.std.proofs.lemmas.List.{append-nil, drop_all, take_all}
+use Rattle.std.proofs.lemmas.List.{append-nil, drop_all, length-map, take_all}
 use Rattle.std.proofs.Math.Pow.{pow_mono}
 use Rattle.std.proofs.Math.Nat.{div-eq_of_lt}
 use Rattle.watch_engine.specs.declared.held.Held.{Held}
@@ -93,16 +93,10 @@ none_placed None f = refl
 none_placed (Some n) f = absurd (f n refl)
 
 -- a slice of all, written back
-pub whole : (n : ℕ) (xs ys : List Held) → length xs ≡ length ys → n ≡ length ys → take n (xs ++ drop (length xs) ys) ≡ xs
-whole n xs ys same long =
-    (λ j. take n (xs ++ drop_all (length xs) ys (omega arith) j)) ∙ ((λ j. take n (append-nil xs j)) ∙ take_all n xs (omega arith))
-
-map_length : (f : Held → Held) (xs : List Held) → length (map f xs) ≡ length xs
-map_length f [] = refl
-map_length f (x ∷ xs) = ap suc (map_length f xs)
+pub whole : (n : ℕ) (new slice items : List Held) → slice ≡ items → length slice ≡ n → length new ≡ length slice → take n (new ++ drop (length new) items) ≡ new
+whole n new slice items value long same =
+    let size : length slice ≡ length items = ap length value in
+    (λ j. take n (new ++ drop_all (length new) items (omega (arith, same)) j)) ∙ ((λ j. take n (append-nil new j)) ∙ take_all n new (omega (arith, same, long)))
 
 pub mapped_whole : (f : Held → Held) (n : ℕ) (new slice items : List Held) → new ≡ map f slice → slice ≡ items → length slice ≡ n → take n (new ++ drop (length new) items) ≡ map f items
-mapped_whole f n new slice items is same long =
-    let of : new ≡ map f items = is ∙ ap (map f) same in
-    let as_long : length new ≡ length items = ap length of ∙ map_length f items in
-    whole n new items as_long (sym long ∙ ap length same) ∙ of
+mapped_whole f n new slice items is value long = whole n new slice items value long (ap length is ∙ length-map slice f) ∙ (is ∙ ap (map f) value)

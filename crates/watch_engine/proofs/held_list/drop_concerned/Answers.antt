@@ -1,5 +1,4 @@
-use Rattle.std.proofs.Common.{◌∙◌, Bool, List, ap, map}
-use Rattle.watch_engine.specs.declared.held.Held.{Held}
+use Rattle.std.proofs.Common.{◌∙◌, ap, map}
 use Rattle.watch_engine.specs.Concerns.{concerns}
 use Rattle.watch_engine.specs.Keys.{key_of}
 use Rattle.watch_engine.specs.Places.{items_of}

@@ -1,4 +1,4 @@
-use Rattle.std.proofs.Common.{◌≡◌, ◌≤◌, ◌+◌, ◌++◌, ◌∙◌, arith, drop, length, sym, take, vec_len, List, ap}
+use Rattle.std.proofs.Common.{◌≡◌, ◌≤◌, ◌+◌, ◌++◌, ◌∙◌, arith, drop, length, take, vec_len, List, ap}
 use Rattle.watch.specs.Trace.{index_of}
 use Rattle.watch_engine.specs.declared.held.Held.{Held}
 use Rattle.watch_engine.specs.Touched.{after_store}
@@ -22,8 +22,7 @@ invariant_of-held g c =
     let places : List Held = c.args.held.now.places.items in
     let mapped = mapped_whole turn _ c.settle_each_touched-empty.new.places c.as_mut_slice.result.now places c.settle_each_touched-empty.ensures.places c.as_mut_slice.ensures.value c.as_mut_slice.ensures.len in
     let new : List Held = c.settle_each_touched-empty.new.places in
-    let same : length c.as_mut_slice.result.now ≡ length places = ap (λ (l : List Held). length l) c.as_mut_slice.ensures.value in
-    let all = whole _ new places (c.settle_each_touched-empty.auto.places ∙ same) (sym c.as_mut_slice.ensures.len ∙ same) in
+    let all = whole _ new c.as_mut_slice.result.now places c.as_mut_slice.ensures.value c.as_mut_slice.ensures.len c.settle_each_touched-empty.auto.places in
     let now : count_gone (take (vec_len c.args.held.now.places) (new ++ drop (length new) places)) ≡ count_gone new = ap (λ (l : List Held). count_gone l) all in
     let seen : count_gone c.as_slice.result.now ≡ count_gone new = ap (λ (l : List Held). count_gone l) (c.as_slice.ensures.value ∙ all) in
     let old : count_gone c.as_mut_slice.result.now ≡ count_gone places = ap (λ (l : List Held). count_gone l) c.as_mut_slice.ensures.value in

@@ -12,8 +12,7 @@ pub returns-clause-left : goal.returns-clause-left
 returns-clause-left c =
     let places : List Held = c.args.self.now.places.items in
     let new : List Held = c.drop_concerned-empty.new.places in
-    let same : length c.as_mut_slice.result.now ≡ length places = ap (λ (l : List Held). length l) c.as_mut_slice.ensures.value in
-    let all = whole _ new places (c.drop_concerned-empty.auto.places ∙ same) (sym c.as_mut_slice.ensures.len ∙ same) in
+    let all = whole _ new c.as_mut_slice.result.now places c.as_mut_slice.ensures.value c.as_mut_slice.ensures.len c.drop_concerned-empty.auto.places in
     c.tidy.ensures.same ∙ (ap items_of all ∙ (c.drop_concerned-empty.ensures.left
     ∙ ap (λ (l : List Held). filter (λ i. not (concerns c.args.concern.now i)) (items_of l)) c.as_mut_slice.ensures.value))
 
@@ -21,8 +20,7 @@ pub invariant_of-self : goal.invariant_of-self
 invariant_of-self c =
     let places : List Held = c.args.self.now.places.items in
     let new : List Held = c.drop_concerned-empty.new.places in
-    let same : length c.as_mut_slice.result.now ≡ length places = ap (λ (l : List Held). length l) c.as_mut_slice.ensures.value in
-    let all = whole _ new places (c.drop_concerned-empty.auto.places ∙ same) (sym c.as_mut_slice.ensures.len ∙ same) in
+    let all = whole _ new c.as_mut_slice.result.now places c.as_mut_slice.ensures.value c.as_mut_slice.ensures.len c.drop_concerned-empty.auto.places in
     let keys = c.drop_concerned-empty.ensures.keys in
     let now : count_gone (take (vec_len c.args.self.now.places) (new ++ drop (length new) places)) ≡ count_gone new = ap (λ (l : List Held). count_gone l) all in
     let seen : count_gone c.as_slice.result.now ≡ count_gone new = ap (λ (l : List Held). count_gone l) (c.as_slice.ensures.value ∙ all) in
