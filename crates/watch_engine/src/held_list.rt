@@ -145,7 +145,8 @@ fn drop_concerned(
     let Some(keys) = concern.keys() else {
         return drop_each(places, concern);
     };
-    let Some(empty) = drop_by(places, pages, frames, roots, &keys, concern, steps) else {
+    let walked = drop_by(places, pages, frames, roots, &keys, concern, steps);
+    let Some(empty) = walked else {
         return drop_each(places, concern);
     };
     empty

@@ -11,11 +11,11 @@ returns-in_default-clause-left c = ap items_of c.drop_each.ensures.places ∙ it
 pub returns-in_default-clause-keys : goal.returns-in_default-clause-keys
 returns-in_default-clause-keys c = λ by. ap (map (key_of by)) c.drop_each.ensures.places ∙ keys_stay (λ i. (gone_at (concerns c.args.concern.now) i).state) by c.args.places.now
 
-pub returns-in_default-drop_by-clause-left : goal.returns-in_default-drop_by-clause-left
-returns-in_default-drop_by-clause-left c =
-    ap items_of c.drop_each-in_default-drop_by.ensures.places ∙ (items_left (concerns c.args.concern.now) c.drop_by.new.places ∙ c.drop_by.ensures.without.left)
+pub returns-in_default-walked-clause-left : goal.returns-in_default-walked-clause-left
+returns-in_default-walked-clause-left c =
+    ap items_of c.drop_each-in_default-walked.ensures.places ∙ (items_left (concerns c.args.concern.now) c.drop_by-walked.new.places ∙ c.drop_by-walked.ensures.without.left)
 
-pub returns-in_default-drop_by-clause-keys : goal.returns-in_default-drop_by-clause-keys
-returns-in_default-drop_by-clause-keys c = λ by.
-    ap (map (key_of by)) c.drop_each-in_default-drop_by.ensures.places
-    ∙ (keys_stay (λ i. (gone_at (concerns c.args.concern.now) i).state) by c.drop_by.new.places ∙ c.drop_by.ensures.without.keys by)
+pub returns-in_default-walked-clause-keys : goal.returns-in_default-walked-clause-keys
+returns-in_default-walked-clause-keys c = λ by.
+    ap (map (key_of by)) c.drop_each-in_default-walked.ensures.places
+    ∙ (keys_stay (λ i. (gone_at (concerns c.args.concern.now) i).state) by c.drop_by-walked.new.places ∙ c.drop_by-walked.ensures.without.keys by)
