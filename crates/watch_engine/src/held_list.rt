@@ -123,9 +123,8 @@ fn drop_by(
     }
 }
 
-// Drops the items that the record concerns: along the chains of their keys where these are few, and else, or
-// once the steps are used up, over the whole list. How many places are empty then of those that were looked
-// at.
+// Drops the items that the record concerns: along the chains of their keys while there are steps, or
+// over the whole list. How many places are empty then of those that were looked at.
 fn drop_concerned(
     places: &mut [Held],
     pages: &Chains,

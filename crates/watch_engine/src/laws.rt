@@ -116,8 +116,8 @@ pub fn no_warnings_if_none_is_due()
 {}
 
 /// A recheck against the tables is idempotent: a second one that finds the same changes nothing,
-/// however much later. What the tables do not have stays stale since the first, with the verdicts that
-/// it has had.
+/// however much later. What is stale stays so since the same moment, with the verdicts that it has
+/// had, and what has gone stays gone.
 pub fn recheck_is_idempotent()
     ensures { (mapped : Bool) (now later : ℕ) (state : State)
         → rechecked mapped later (rechecked mapped now state) ≡ rechecked mapped now state }
