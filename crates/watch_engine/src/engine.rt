@@ -8,7 +8,6 @@ ghost use Rattle.watch_engine.specs.Open.{claim_begun};
 ghost use Rattle.watch_engine.specs.Warnings.{AreWarnings};
 
 use crate::cause::Cause;
-use crate::held_list::HeldList;
 use crate::kept_ways::KeptWays;
 use crate::left::{add_ended, add_fence};
 use crate::left_spaces::LeftSpaces;
@@ -20,7 +19,7 @@ use crate::roots::Roots;
 use crate::satps::{Satps, satp_in};
 use crate::seen::{add_seen, add_seen_in};
 use crate::tables::Tables;
-use crate::touched::settle_touched;
+use crate::translation_index::TranslationIndex;
 use crate::warning::{Warning, warnings};
 use pte::Scheme;
 use std::alloc::{AllocError, Global};
@@ -57,7 +56,7 @@ pub struct Watch<T: Tables> {
     tables: T,
     satps: Satps,
     roots: Roots,
-    held: HeldList,
+    held: TranslationIndex,
     left: LeftSpaces,
     drops: PastFences,
     fences: Vec<OpenFence>,
@@ -90,7 +89,7 @@ impl<T: Tables> Watch<T> {
             tables,
             satps: Satps::new(alloc),
             roots: Roots::new(alloc),
-            held: HeldList::new(alloc),
+            held: TranslationIndex::new(alloc),
             left: LeftSpaces::new(alloc),
             drops: PastFences::new(alloc),
             fences: Vec::new(alloc),
@@ -137,8 +136,7 @@ impl<T: Tables> Watch<T> {
         let stay = self.tables.keeps_ways(address, word);
         self.tables.store(address, word, self.count + 1)?;
         self.count += 1;
-        settle_touched(
-            &mut self.held,
+        self.held.settle_touched(
             &self.tables,
             self.scheme,
             self.satps.spaces(),

@@ -7,9 +7,9 @@ ghost use Rattle.watch_engine.specs.Concerns.{concerns};
 ghost use Rattle.watch_engine.specs.declared.held.Held.{Held as HeldOf};
 ghost use Rattle.watch_engine.specs.declared.keys.By.{By as ByOf};
 ghost use Rattle.watch_engine.specs.declared.keys.By.TheVariants.{Frame, Page, Root};
-ghost use Rattle.watch_engine.specs.Held.{held_from, with_state};
+ghost use Rattle.watch_engine.specs.Held.{held_from, is_of, last_translation, remembered, with_state};
 ghost use Rattle.watch_engine.specs.Keys.{AreSmall, BeginsWith, IsAmong, key_of};
-ghost use Rattle.watch_engine.specs.Places.{AreFewGone, IsWithout, count_gone, has, items_of};
+ghost use Rattle.watch_engine.specs.Places.{AreFewGone, IsWithout, count_gone, has, items_of, place_in};
 
 use crate::chains::Chains;
 use crate::concern::Concern;
@@ -18,6 +18,7 @@ use crate::keys::{By, Keys};
 use crate::places::{add_empty, drop_each, drop_with_keys, end_of};
 use crate::state_change::{StateChange, change_each};
 use std::alloc::{AllocError, Global};
+use std::marker::Model;
 
 /// How many empty places are let be, however few items there are.
 const FEW_EMPTY: usize = 16;
@@ -45,6 +46,43 @@ pub(crate) struct HeldList {
     ghost by_frame: { frames.keys.items ≡ map (key_of Frame) places.items },
     ghost by_root: { roots.keys.items ≡ map (key_of Root) places.items },
     ghost counted: { count_gone places.items ≤ empty },
+}
+
+/// The items of places, but for those that have gone.
+#[derive(Drop)]
+pub(crate) struct Items<'a> {
+    places: &'a [Held],
+}
+
+impl<'a> Model for Items<'a> {
+    ghost use Rattle.std.specs.Prelude.{List};
+    ghost use Rattle.watch_engine.specs.declared.held.Held.{Held as HeldOf};
+    ghost use Rattle.watch_engine.specs.Places.{items_of};
+
+    ghost Value = { List HeldOf };
+
+    ghost view = { λ s. items_of s.places.now };
+}
+
+impl<'a> Iterator for Items<'a> {
+    ghost use Rattle.std.specs.Iterator.{YieldsFirstRef, item_count};
+
+    type Item = &'a Held;
+
+    ghost next_gives = { YieldsFirstRef (λ s. s) };
+
+    ghost remaining = { item_count (λ s. s) };
+
+    #[inline]
+    fn next(&mut self) -> Option<&'a Held> {
+        while let Some((first, others)) = self.places.split_first() {
+            self.places = others;
+            if !first.state.is_gone() {
+                return Some(first);
+            }
+        }
+        None
+    }
 }
 
 // Adds the keys of an item. At `Err` some of them are there.
@@ -165,11 +203,20 @@ impl HeldList {
         }
     }
 
-    /// The places of items.
-    pub(crate) fn as_slice(&self) -> &[Held]
-        ensures value { result.now ≡ self.now.places.items }
+    /// All items, in their order.
+    pub(crate) fn iter(&self) -> Items<'_>
+        ensures { result ≡ items_of self.now.places.items }
     {
-        self.places.as_slice()
+        Items {
+            places: self.places.as_slice(),
+        }
+    }
+
+    /// How many places there are.
+    pub(crate) fn len(&self) -> usize
+        ensures { result ≡ length self.now.places.items }
+    {
+        self.places.len()
     }
 
     fn chains(&self, by: By) -> &Chains
@@ -254,6 +301,29 @@ impl HeldList {
         self.first_of(concern, &mut steps) < self.places.len()
     }
 
+    // The place of a translation. By turns from the front of the list and along the chain of its page.
+    fn place_of(&self, live: &LastLive) -> Option<usize>
+        ensures { result ≡ place_in (has (is_of live.now.hart (last_translation live.now))) 0
+            self.now.places.items }
+    {
+        let places = self.places.as_slice();
+        let key = By::Page.key_of(&Held::from_live(live));
+        let mut at = self.pages.head(key);
+        let mut front = 0;
+        let mut found = None;
+        while at > front {
+            if places[front].is_of_live(live) {
+                return Some(front);
+            }
+            front += 1;
+            if places[at - 1].is_of_live(live) {
+                found = Some(at - 1);
+            }
+            at = self.pages.older(at);
+        }
+        found
+    }
+
     // With a translation that was live, as one more item. At `Err` nothing changed.
     fn try_push(&mut self, live: &LastLive) -> Result<(), AllocError>
         ensures ok { OnOk result (items_of self.new.places.items
@@ -329,6 +399,20 @@ impl HeldList {
         }
         self.close_up();
         self.try_push(live)
+    }
+
+    /// With a translation that was live. At `Err` nothing changed.
+    pub(crate) fn remember(&mut self, live: &LastLive) -> Result<(), AllocError>
+        ensures ok { OnOk result (items_of self.new.places.items
+            ≡ remembered live.now (items_of self.old.places.items)) }
+        ensures err { OnErr result (items_of self.new.places.items
+            ≡ items_of self.old.places.items) }
+    {
+        let Some(place) = self.place_of(live) else {
+            return self.push(live);
+        };
+        self.places[place].touch(live.last_live);
+        Ok(())
     }
 
     /// Closes up where that is worth its cost, by how many places were emptied or found empty. It needs no

@@ -2,6 +2,7 @@
 
 ghost use Rattle.std.specs.Prelude.{◌≡◌, ◌+◌, ◌<◌};
 ghost use Rattle.watch_engine.specs.Keys.{AreSmall, frame_key, key_at, key_of, page_key};
+ghost use Rattle.watch_engine.specs.PageRuns.{is_that_page};
 
 use crate::held::Held;
 use pte::{PAGE_BYTES, Page};
@@ -58,6 +59,13 @@ pub(crate) fn page_key(page: &Page) -> u64
     } else {
         PAGE_LIMIT
     }
+}
+
+/// Whether the pages are the same.
+pub(crate) fn is_that_page(page: &Page, other: &Page) -> bool
+    ensures { result ≡ is_that_page page.now other.now }
+{
+    page.base().get() == other.base().get() && page.size().level() == other.size().level()
 }
 
 fn frame_key(entry: &Entry) -> u64

@@ -190,7 +190,7 @@ fn first_touched(
         (translation_of i))) (take result held.now.places.items) ≡ false }
     ensures within { result ≤ length held.now.places.items }
 {
-    let mut first = held.as_slice().len();
+    let mut first = held.len();
     let mut steps = held.chain_steps();
     if first == 0 || ways.len() > steps.min(FEW_WAYS) {
         return 0;
@@ -263,7 +263,7 @@ pub(crate) fn settle_touched<T: Tables>(
         (items_of held.old.places.items)) }
 {
     let first = first_touched(held, scheme, roots, address, ways);
-    if first < held.as_slice().len() {
+    if first < held.len() {
         settle_touched_from(
             held, tables, scheme, satps, roots, address, ways, count, first,
         );

@@ -1,15 +1,13 @@
 //! Warnings.
 
-ghost use Rattle.std.specs.Prelude.{◌≡◌, [], IfOk, OnOk, if◌then◌else◌};
+ghost use Rattle.std.specs.Prelude.{◌≡◌, [], IfOk, OnOk};
 ghost use Rattle.watch_engine.specs.Warnings.{has_same_rights, is_line, is_same_page, is_same_scope, is_shown, joined, warning_of, with_warning};
 ghost use Rattle.std.specs.List.{list_any};
-ghost use Rattle.watch_engine.specs.Places.{items_of};
-ghost use Rattle.watch_engine.specs.State.{is_gone};
 
 use crate::cause::Cause;
 use crate::concern::Concern;
 use crate::held::Held;
-use crate::held_list::HeldList;
+use crate::translation_index::TranslationIndex;
 use pte::PteFlags;
 use std::alloc::{AllocError, Global};
 use tlb::Entry;
@@ -95,24 +93,26 @@ fn is_shown(warnings: &[Warning], item: &Held) -> bool
     false
 }
 
-// With the warning of a translation that is there, if there is one and it is not shown yet.
+// With the warning of a translation, if there is one and it is not shown yet.
 fn add_warning(warnings: &mut Vec<Warning>, item: &Held, cause: &Cause) -> Result<(), AllocError>
-    ensures { OnOk result (warnings.new.items ≡ (if is_gone item.now.state then warnings.old.items
-        else with_warning cause.now item.now warnings.old.items)) }
+    ensures { OnOk result (warnings.new.items ≡ with_warning cause.now item.now warnings.old.items) }
 {
-    if !item.state.is_gone() && item.is_given_by(cause) && !is_shown(warnings.as_slice(), item) {
+    if item.is_given_by(cause) && !is_shown(warnings.as_slice(), item) {
         warnings.push(Warning::of(cause.verdict(), item))?;
     }
     Ok(())
 }
 
 // The warnings for a cause, of all items.
-fn all_warnings(alloc: Global, places: &[Held], cause: &Cause) -> Result<Vec<Warning>, AllocError>
-    ensures { IfOk result (λ warnings.
-        warnings.items ≡ joined cause.now (items_of places.now) []) }
+fn all_warnings(
+    alloc: Global,
+    held: &TranslationIndex,
+    cause: &Cause,
+) -> Result<Vec<Warning>, AllocError>
+    ensures { IfOk result (λ warnings. warnings.items ≡ joined cause.now held.now []) }
 {
     let mut warnings = Vec::new(alloc);
-    for item in places {
+    for item in held.iter() {
         add_warning(&mut warnings, item, cause)?;
     }
     Ok(warnings)
@@ -121,14 +121,13 @@ fn all_warnings(alloc: Global, places: &[Held], cause: &Cause) -> Result<Vec<War
 // The warnings for a cause.
 pub(crate) fn warnings(
     alloc: Global,
-    held: &HeldList,
+    held: &TranslationIndex,
     cause: &Cause,
 ) -> Result<Vec<Warning>, AllocError>
-    ensures { IfOk result (λ warnings.
-        warnings.items ≡ joined cause.now (items_of held.now.places.items) []) }
+    ensures { IfOk result (λ warnings. warnings.items ≡ joined cause.now held.now []) }
 {
     if !held.may_concern(&Concern::Given(*cause)) {
         return Ok(Vec::new(alloc));
     }
-    all_warnings(alloc, held.as_slice(), cause)
+    all_warnings(alloc, held, cause)
 }

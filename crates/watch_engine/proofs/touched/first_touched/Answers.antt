@@ -9,8 +9,7 @@ use Rattle.watch_engine.proofs.touched.first_touched.Goals as goal
 pub loop-way-init : goal.loop-way-init
 loop-way-init c =
     let items : List Held = c.args.held.now.places.items in
-    let long : length c.as_slice-first.result.now ≡ length items = ap (λ (l : List Held). length l) c.as_slice-first.ensures.value in
-    record { none = none_of (take (length c.as_slice-first.result.now) items); within = omega arith }
+    record { none = none_of (take c.len-first.result items); within = omega (arith, c.len-first.ensures) }
 
 pub loop-way-preserved : goal.loop-way-preserved
 loop-way-preserved c =

@@ -1,4 +1,3 @@
-use Rattle.watch_engine.specs.Places.{items_of}
 use Rattle.std.proofs.Common.{◌≡◌, ◌∙◌, sym, subst, List, ℕ, Option}
 use Rattle.watch.specs.declared.trace.Record.TheVariants as records
 use Rattle.watch.specs.declared.trace.Space.{Space}
@@ -15,7 +14,7 @@ returns-clause-warnings g c = λ trace at.
     let scheme = c.args.self.now.scheme in
     let hart : ℕ = c.args.hart in
     let address : ℕ = c.args.address in
-    let held : List Held = (items_of c.args.self.now.held.places.items) in
+    let held : List Held = c.args.self.now.held in
     let space : Option Space = c.satp-space.result in
     let satp : satp_of trace hart ≡ space = sym (c.satp-space.ensures ∙ at.satp hart) in
     subst (AreWarnings scheme (records.Use hart address) trace) (sym c.in_ok-given.ensures)

@@ -1,4 +1,3 @@
-use Rattle.watch_engine.specs.Places.{items_of}
 use Rattle.std.proofs.Common.{◌≡◌, ◌∙◌, sym, ap, subst, List, map, ℕ, Option, None}
 use Rattle.watch.specs.declared.trace.Record.TheVariants as records
 use Rattle.watch.specs.declared.trace.Verdict.TheVariants.{Claimed}
@@ -17,7 +16,7 @@ pub returns-clause-warnings : goal.returns-clause-warnings
 returns-clause-warnings g c = λ hart trace at.
     let scheme = c.args.self.now.scheme in
     let token : ℕ = c.args.token in
-    let held : List Held = (items_of c.args.self.now.held.places.items) in
+    let held : List Held = c.args.self.now.held in
     let found : Option OpenClaim = c.newest_claim-claim.result in
     let is : found ≡ newest_claim token None c.args.self.now.claims.items = c.newest_claim-claim.ensures ∙ ap (newest_claim token None) c.as_slice.ensures.value in
     subst (AreWarnings scheme (records.ClaimEnd hart token) trace) (sym (c.in_ok-given.ensures))
@@ -26,13 +25,13 @@ returns-clause-warnings g c = λ hart trace at.
 pub returns-clause-ok : goal.returns-clause-ok
 returns-clause-ok g c = λ hart trace at.
     let token : ℕ = c.args.token in
-    let held : List Held = (items_of c.args.self.now.held.places.items) in
+    let held : List Held = c.args.self.now.held in
     let found : Option OpenClaim = c.newest_claim-claim.result in
     let is : found ≡ newest_claim token None c.args.self.now.claims.items = c.newest_claim-claim.ensures ∙ ap (newest_claim token None) c.as_slice.ensures.value in
     claim_end_stands at hart token _ _ (c.mark_given.ensures ∙ ap (λ o. map (marked_if Claimed (is_claimed_by o)) held) is) c.end_claim.ensures
 
 pub mark_given-requires : goal.mark_given-requires
 mark_given-requires g c = λ none.
-    let held : List Held = (items_of c.args.self.now.held.places.items) in
+    let held : List Held = c.args.self.now.held in
     let found : Option OpenClaim = c.newest_claim-claim.result in
     still_same (Claim found) held (sym (c.in_ok-given.ensures) ∙ (sym c.as_slice-2.ensures.value ∙ none))

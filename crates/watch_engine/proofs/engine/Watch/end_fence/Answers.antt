@@ -1,4 +1,3 @@
-use Rattle.watch_engine.specs.Places.{items_of}
 use Rattle.std.proofs.Common.{◌≡◌, ◌∙◌, ap, List, filter, None, Option, ℕ}
 use Rattle.watch_engine.specs.declared.held.Held.{Held}
 use Rattle.watch_engine.specs.declared.left.PastFence.{PastFence}
@@ -13,7 +12,7 @@ pub returns-clause-ok : goal.returns-clause-ok
 returns-clause-ok g c = λ hart trace at.
     let scheme = c.args.self.now.scheme in
     let token : ℕ = c.args.token in
-    let held : List Held = (items_of c.args.self.now.held.places.items) in
+    let held : List Held = c.args.self.now.held in
     let drops : List PastFence = c.args.self.now.drops.fences.items in
     let is : c.newest_fence-fence.result ≡ newest_fence token None c.args.self.now.fences.items = c.newest_fence-fence.ensures ∙ ap (newest_fence token None) c.as_slice.ensures.value in
     remote_end_stands at hart token _ _ _

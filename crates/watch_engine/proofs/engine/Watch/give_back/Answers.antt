@@ -1,4 +1,3 @@
-use Rattle.watch_engine.specs.Places.{items_of}
 use Rattle.std.proofs.Common.{◌∙◌, sym, subst, List}
 use Rattle.watch.specs.declared.trace.Record.TheVariants as records
 use Rattle.watch_engine.specs.declared.cause.Cause.TheVariants.{Back}
@@ -13,7 +12,7 @@ pub returns-clause-warnings : goal.returns-clause-warnings
 returns-clause-warnings g c = λ hart trace at.
     let scheme = c.args.self.now.scheme in
     let frames = c.args.frames in
-    let held : List Held = (items_of c.args.self.now.held.places.items) in
+    let held : List Held = c.args.self.now.held in
     subst (AreWarnings scheme (records.GiveBack hart frames) trace) (sym (c.in_ok-given.ensures))
     (are_warnings scheme (records.GiveBack hart frames) trace (Back frames) _ (back_causes scheme hart frames trace) held at.are)
 
@@ -22,5 +21,5 @@ returns-clause-ok g c = λ hart trace at. back_stands at hart c.args.frames _ c.
 
 pub mark_given-requires : goal.mark_given-requires
 mark_given-requires g c = λ none.
-    let held : List Held = (items_of c.args.self.now.held.places.items) in
+    let held : List Held = c.args.self.now.held in
     still_same (Back c.args.frames) held (sym (c.in_ok-given.ensures) ∙ (sym c.as_slice.ensures.value ∙ none))

@@ -1,4 +1,3 @@
-use Rattle.watch_engine.specs.Places.{items_of}
 use Rattle.std.proofs.Common.{◌≡◌, ◌∙◌, sym, ap, subst, List, Option, map, ◌+◌, ◌∷◌, [], ℕ, Bool}
 use Rattle.std.specs.Prelude.{cond}
 use Rattle.std.specs.List.{list_all}
@@ -45,7 +44,7 @@ pub returns-clause-warnings : goal.returns-clause-warnings
 returns-clause-warnings g c = λ hart trace at.
     let scheme = c.args.self.now.scheme in
     let frames = c.args.frames in
-    let held : List Held = (items_of c.args.self.now.held.places.items) in
+    let held : List Held = c.args.self.now.held in
     subst (AreWarnings scheme (records.GiveOut hart frames) trace) (sym (c.in_ok-given.ensures))
     (are_warnings scheme (records.GiveOut hart frames) trace (Out frames) _ (out_causes scheme hart frames trace) held at.are)
 
@@ -62,7 +61,7 @@ returns-clause-ok g c = λ hart trace at.
     let all = subst (SeenIn scheme words since watch.satps.spaces.items left drops watch.count addresses) (sym c.as_slice-2.ensures.value)
     (subst (λ (many : List ℕ). SeenIn scheme words since watch.satps.spaces.items left drops watch.count many c.add_seen_in.new.seen.items) c.as_slice.ensures.value
     (subst (λ (ss : List (Option Space)). SeenIn scheme words since ss left drops watch.count c.as_slice.result.now c.add_seen_in.new.seen.items) c.spaces.ensures.value c.in_ok-add_seen_in.ensures)) in
-    let held : List Held = (items_of watch.held.places.items) in
+    let held : List Held = watch.held in
     let frames = c.args.frames in
     let new : Tables = g.T.Tables.words c.clear.new.self in
     let these : List ℕ = c.drop_given-keeps.new.self in
@@ -71,9 +70,9 @@ returns-clause-ok g c = λ hart trace at.
     let keeps_is : keeps ≡ list_all (root_stays frames watch.satps.spaces.items) watch.roots = c.drop_given-keeps.ensures.all ∙ (λ j. list_all (root_stays frames (c.spaces-2.ensures.value j)) watch.roots) in
     let mark : Held → Held = marked_if Reuse (is_exposed_by frames) in
     let settle : List ℕ → Held → Held = λ rs i. settled_unless_stale (is_current_by (is_mapped scheme new) rs (translation_of i)) (watch.count + 1) i in
-    let marks : (items_of c.mark_given.new.held.places.items) ≡ map mark (remembered_all seen held) = c.mark_given.ensures ∙ ap (map mark) c.in_ok-remember_all.ensures.ok in
+    let marks : c.mark_given.new.held ≡ map mark (remembered_all seen held) = c.mark_given.ensures ∙ ap (map mark) c.in_ok-remember_all.ensures.ok in
     let changed : Bool = c.may_differ.result in
-    subst (λ (ls : List Left). Stands scheme (records.GiveOut hart frames ∷ trace) new (g.T.Tables.since c.clear.new.self) watch.satps.spaces.items these (items_of c.settle_taken.new.held.places.items) ls drops watch.fences.items watch.claims.items (watch.count + 1))
+    subst (λ (ls : List Left). Stands scheme (records.GiveOut hart frames ∷ trace) new (g.T.Tables.since c.clear.new.self) watch.satps.spaces.items these c.settle_taken.new.held ls drops watch.fences.items watch.claims.items (watch.count + 1))
     (sym (c.drop_rootless.ensures ∙ all_rooted at frames these these_are keeps keeps_is))
     (frames_stand at hart frames new (g.T.Tables.since c.clear.new.self) (c.clear.ensures.words hart) c.clear.ensures.others addresses c.in_ok-addresses.ensures these these_are changed
     (λ same. (sym c.as_slice-5.ensures.value ∙ c.may_differ.ensures.words same, sym keeps_is ∙ c.may_differ.ensures.roots same)) seen all _
@@ -81,7 +80,7 @@ returns-clause-ok g c = λ hart trace at.
 
 pub mark_given-requires : goal.mark_given-requires
 mark_given-requires g c = λ none.
-    let held : List Held = (items_of c.args.self.now.held.places.items) in
+    let held : List Held = c.args.self.now.held in
     let frames = c.args.frames in
     let seen : List LastLive = c.as_slice-2.result.now in
     let f : Held → Held = marked_if Reuse (is_exposed_by frames) in

@@ -1,4 +1,3 @@
-use Rattle.watch_engine.specs.Places.{items_of}
 use Rattle.std.proofs.Common.{◌∙◌, sym, subst, List, Option, map, filter, ◌+◌, ℕ}
 use Rattle.walk.specs.Leads.{Tables}
 use Rattle.watch.specs.declared.trace.Space.{Space}
@@ -47,8 +46,8 @@ returns-in_err-store-clause-err g c = λ trace at.
     let all = seen_of scheme words since watch.satps.spaces.items left drops watch.count c.args.address c.new-seen.result.items seen c.new-seen.ensures.items added in
     let stands = all_remembered at seen all.each _ c.in_ok-remember_all.ensures.ok in
     on_err _ _
-    (subst (λ (w : Tables). Stands scheme trace w (g.T.Tables.since c.store.new.self) watch.satps.spaces.items watch.roots (items_of c.remember_all.new.held.places.items) left drops watch.fences.items watch.claims.items watch.count) (sym c.in_err-store.ensures.err)
-    (subst (λ (s : ℕ → ℕ → ℕ). Stands scheme trace words s watch.satps.spaces.items watch.roots (items_of c.remember_all.new.held.places.items) left drops watch.fences.items watch.claims.items watch.count) (sym c.in_err-store.ensures.err_since) stands))
+    (subst (λ (w : Tables). Stands scheme trace w (g.T.Tables.since c.store.new.self) watch.satps.spaces.items watch.roots c.remember_all.new.held left drops watch.fences.items watch.claims.items watch.count) (sym c.in_err-store.ensures.err)
+    (subst (λ (s : ℕ → ℕ → ℕ). Stands scheme trace words s watch.satps.spaces.items watch.roots c.remember_all.new.held left drops watch.fences.items watch.claims.items watch.count) (sym c.in_err-store.ensures.err_since) stands))
 
 pub returns-clause-ok : goal.returns-clause-ok
 returns-clause-ok g c = λ hart trace at.
@@ -59,7 +58,7 @@ returns-clause-ok g c = λ hart trace at.
     let seen : List LastLive = c.as_slice-2.result.now in
     let left : List Left = watch.left in
     let drops : List PastFence = watch.drops.fences.items in
-    let held : List Held = (items_of watch.held.places.items) in
+    let held : List Held = watch.held in
     let added = subst (AddedBy scheme words since watch.satps.spaces.items left drops watch.count c.args.address c.new-seen.result.items) (sym c.as_slice-2.ensures.value)
     (subst (λ (ss : List (Option Space)). AddedBy scheme words since ss left drops watch.count c.args.address c.new-seen.result.items c.add_seen.new.seen.items) c.spaces.ensures.value c.in_ok-add_seen.ensures) in
     let all = seen_of scheme words since watch.satps.spaces.items left drops watch.count c.args.address c.new-seen.result.items seen c.new-seen.ensures.items added in

@@ -1,4 +1,3 @@
-use Rattle.watch_engine.specs.Places.{items_of}
 use Rattle.std.proofs.Common.{◌≡◌, sym, ap, List, length, ℕ}
 use Rattle.walk.specs.Leads.{Tables}
 use Rattle.watch_engine.specs.declared.held.Held.{Held}
@@ -12,7 +11,7 @@ returns-clause-ok g c = λ trace at.
     let scheme = watch.scheme in
     let words : Tables = g.T.Tables.words watch.tables in
     let drops : List PastFence = watch.drops.fences.items in
-    let held : List Held = (items_of watch.held.places.items) in
+    let held : List Held = watch.held in
     let these : List ℕ = c.add.new.roots in
     let grown = other_satps at _ c.add_hart.new.self.limit c.add_hart.ensures.same in
     let long : length c.as_slice-fences.result.now ≡ length drops = ap (λ (ds : List PastFence). length ds) c.as_slice-fences.ensures.value in

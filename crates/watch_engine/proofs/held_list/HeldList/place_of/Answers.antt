@@ -11,8 +11,8 @@ use Rattle.watch_engine.specs.Keys.{key_of, page_key}
 use Rattle.watch_engine.specs.Places.{has, is_there}
 use Rattle.watch_engine.proofs.Lists.{of_same}
 use Rattle.watch_engine.proofs.Walks.{Looks, looks_done, looks_first, looks_here, looks_on}
-use Rattle.watch_engine.proofs.list.place_of.Goals.{then-is_of_live-2, else-is_of_live-2}
-use Rattle.watch_engine.proofs.list.place_of.Goals as goal
+use Rattle.watch_engine.proofs.held_list.HeldList.place_of.Goals.{then-is_of_live-2, else-is_of_live-2}
+use Rattle.watch_engine.proofs.held_list.HeldList.place_of.Goals as goal
 
 same_page : (hart : ℕ) (x : Translation) (i : Held) → has (is_of hart x) i ≡ true → key_of Page i ≡ page_key x.entry.page
 same_page hart x i is = ap (λ (y : Translation). page_key y.entry.page) (of_same hart x i (and_parts (is_there i) (is_of hart x i) is).1).translation
@@ -21,22 +21,22 @@ pub loop-front-init : goal.loop-front-init
 loop-front-init c =
     let hart : ℕ = c.args.live.now.hart in
     let x : Translation = last_translation c.args.live.now in
-    let buckets : ℕ = length c.args.held.now.pages.heads.items in
+    let buckets : ℕ = length c.args.self.now.pages.heads.items in
     let key : c.key_of-key.result ≡ page_key x.entry.page = c.key_of-key.ensures ∙ ap (key_of Page) c.from_live.ensures in
-    looks_first buckets (key_of Page) (page_key x.entry.page) (has (is_of hart x)) (same_page hart x) c.args.held.now.places.items c.head-at.result
-    (subst (λ (k : ℕ). IsFirst buckets (map (key_of Page) c.args.held.now.places.items) k c.head-at.result) key
-    (subst (λ (keys : List ℕ). IsFirst buckets keys c.key_of-key.result c.head-at.result) c.args.held.now.by_page c.head-at.ensures))
+    looks_first buckets (key_of Page) (page_key x.entry.page) (has (is_of hart x)) (same_page hart x) c.args.self.now.places.items c.head-at.result
+    (subst (λ (k : ℕ). IsFirst buckets (map (key_of Page) c.args.self.now.places.items) k c.head-at.result) key
+    (subst (λ (keys : List ℕ). IsFirst buckets keys c.key_of-key.result c.head-at.result) c.args.self.now.by_page c.head-at.ensures))
 
 pub bounds-places-front : goal.bounds-places-front
 bounds-places-front c =
-    let size : length c.as_slice-places.result.now ≡ length c.args.held.now.places.items = ap length c.as_slice-places.ensures.value in
+    let size : length c.as_slice-places.result.now ≡ length c.args.self.now.places.items = ap length c.as_slice-places.ensures.value in
     omega (arith, c.loop-front.invariant.within)
 
 pub returns-then-is_of_live : goal.returns-then-is_of_live
 returns-then-is_of_live c =
     let hart : ℕ = c.args.live.now.hart in
     let x : Translation = last_translation c.args.live.now in
-    let items : List Held = c.args.held.now.places.items in
+    let items : List Held = c.args.self.now.places.items in
     let d : Held = c.index-places-front.result in
     let read : d ≡ get_or items c.loop-front.front d = c.index-places-front.is ∙ ap (λ (l : List Held). get_or l c.loop-front.front d) c.as_slice-places.ensures.value in
     sym (looks_here _ (key_of Page) (page_key x.entry.page) (has (is_of hart x)) items c.loop-front.at c.loop-front.front d c.loop-front.found c.loop-front.invariant c.loop-front-test.true
@@ -44,13 +44,13 @@ returns-then-is_of_live c =
 
 pub bounds-places-at : goal.bounds-places-at
 bounds-places-at c =
-    let size : length c.as_slice-places.result.now ≡ length c.args.held.now.places.items = ap length c.as_slice-places.ensures.value in
+    let size : length c.as_slice-places.result.now ≡ length c.args.self.now.places.items = ap length c.as_slice-places.ensures.value in
     omega (arith, c.loop-front.invariant.within)
 
 pub older-at-requires-clause-within : goal.older-at-requires-clause-within
 older-at-requires-clause-within c =
-    let size : length c.args.held.now.pages.keys.items ≡ length c.args.held.now.places.items =
-    ap length c.args.held.now.by_page ∙ length-map c.args.held.now.places.items (key_of Page) in
+    let size : length c.args.self.now.pages.keys.items ≡ length c.args.self.now.places.items =
+    ap length c.args.self.now.by_page ∙ length-map c.args.self.now.places.items (key_of Page) in
     omega (arith, c.loop-front.invariant.within)
 
 pub loop-front-smaller : goal.loop-front-smaller
@@ -60,10 +60,10 @@ pub loop-front-preserved : goal.loop-front-preserved
 loop-front-preserved c =
     let hart : ℕ = c.args.live.now.hart in
     let x : Translation = last_translation c.args.live.now in
-    let buckets : ℕ = length c.args.held.now.pages.heads.items in
+    let buckets : ℕ = length c.args.self.now.pages.heads.items in
     let at : ℕ = c.loop-front.at in
     let front : ℕ = c.loop-front.front in
-    let items : List Held = c.args.held.now.places.items in
+    let items : List Held = c.args.self.now.places.items in
     let d : Held = c.index-places-at.result in
     let e : Held = c.index-places-front.result in
     let read : d ≡ get_or items (at - 1) d = c.index-places-at.is ∙ ap (λ (l : List Held). get_or l (at - 1) d) c.as_slice-places.ensures.value in
@@ -71,7 +71,7 @@ loop-front-preserved c =
     let tested : has (is_of hart x) (get_or items (at - 1) d) ≡ c.is_of_live-in-loop-front.result = ap (has (is_of hart x)) (sym read) ∙ sym c.is_of_live-in-loop-front.ensures in
     let on = looks_on buckets (key_of Page) (page_key x.entry.page) (has (is_of hart x)) (same_page hart x) items at front d e c.loop-front.found c.loop-front.invariant c.loop-front-test.true
     (ap (has (is_of hart x)) (sym read_front) ∙ sym c.is_of_live.ensures ∙ c.if-is_of_live.false) c.older-at.result
-    (subst (λ (keys : List ℕ). IsNext buckets keys at c.older-at.result) c.args.held.now.by_page c.older-at.ensures) in
+    (subst (λ (keys : List ℕ). IsNext buckets keys at c.older-at.result) c.args.self.now.by_page c.older-at.ensures) in
     let now : (if has (is_of hart x) (get_or items (at - 1) d) then Some (at - 1) else c.loop-front.found) ≡ c.if-is_of_live-2.found = elim c.if-is_of_live-2.branch [
       | then-is_of_live-2 w ↦ ap (λ (b : Bool). if b then Some (at - 1) else c.loop-front.found) (tested ∙ w.if-is_of_live-2.true) ∙ sym w.found-is
       | else-is_of_live-2 w ↦ ap (λ (b : Bool). if b then Some (at - 1) else c.loop-front.found) (tested ∙ w.if-is_of_live-2.false) ∙ sym w.found-is
@@ -82,4 +82,4 @@ pub returns : goal.returns
 returns c =
     let hart : ℕ = c.args.live.now.hart in
     let x : Translation = last_translation c.args.live.now in
-    sym (looks_done _ (key_of Page) (page_key x.entry.page) (has (is_of hart x)) c.args.held.now.places.items c.loop-front.at c.loop-front.front c.loop-front.found c.loop-front.invariant (omega arith))
+    sym (looks_done _ (key_of Page) (page_key x.entry.page) (has (is_of hart x)) c.args.self.now.places.items c.loop-front.at c.loop-front.front c.loop-front.found c.loop-front.invariant (omega arith))
