@@ -1,6 +1,6 @@
 -- Places whose items go: what is left, and where chains still lead.
-use Rattle.std.proofs.Common.{◌≡◌, ℕ, Bool, true, false, zero, suc, ◌-◌, ◌<◌, List, [], ◌∷◌, ◌++◌, length, map, take, get_or, set, ap, sym, ◌∙◌, refl, arith}
-use Rattle.std.specs.Prelude.{◌==◌, ◌&&◌, ◌||◌, cond, filter, not}
+use Rattle.std.proofs.Common.{◌≡◌, ℕ, Bool, true, false, suc, ◌-◌, ◌<◌, List, [], ◌∷◌, ◌++◌, length, map, take, get_or, set, ap, sym, ◌∙◌, refl, arith}
+use Rattle.std.specs.Prelude.{◌&&◌, ◌||◌, cond, filter, not}
 use Rattle.std.specs.List.{list_any}
 use Rattle.std.proofs.Math.Seq.{map-set_same, take-suc}
 use Rattle.std.proofs.lemmas.List.{append-nil, drop-set-lt, get_or-set_same, length-set, map-append, take-map, take-take}
@@ -8,7 +8,7 @@ use Rattle.watch_engine.specs.declared.held.Held.{Held}
 use Rattle.watch_engine.specs.declared.keys.By.{By}
 use Rattle.watch_engine.specs.Chains.{last_place}
 use Rattle.watch_engine.specs.Keys.{key_of}
-use Rattle.watch_engine.specs.Places.{IsWithout, has, is_there, items_of, turned}
+use Rattle.watch_engine.specs.Places.{has, is_there, items_of}
 use Rattle.watch_engine.specs.State.{is_gone}
 use Rattle.watch_engine.specs.declared.state.State.{State}
 use Rattle.watch_engine.specs.declared.state.State.TheVariants.{Gone}
@@ -16,7 +16,11 @@ use Rattle.watch_engine.specs.declared.keys.By.TheVariants.{Frame, Page, Root}
 use Rattle.watch_engine.specs.Held.{Each, with_state}
 use Rattle.std.proofs.lemmas.List.Elements.{filter-append}
 use Rattle.watch_engine.proofs.Lists.{each_of, filter_same, map_same}
-use Rattle.watch_engine.proofs.Walks.{IsAt, and_no, keyed, next, or_parts}
+use Rattle.watch_engine.proofs.Walks.{IsAt, keyed, next}
+
+-- its state is changed, or it goes
+abbrev pub turned : (Held → State) → (Held → Bool) → Held → Held
+turned after goes i = with_state (cond (goes i) Gone (after i)) i
 
 -- the items of places of which some are changed and others go
 items_first : (after : Held → State) (goes : Held → Bool) (i : Held) (gone : Bool) (new rest : List Held) → is_gone (after i) ≡ gone → items_of new ≡ map (λ i. with_state (after i) i) (filter (λ i. not (goes i)) rest)
@@ -64,7 +68,7 @@ any_items t [] = refl
 any_items t (i ∷ places) = any_first t i (is_gone i.state) (list_any (has t) places) (items_of places) (any_items t places)
 
 -- keys stay
-key_stays : (by : By) (s : State) (i : Held) → key_of by (with_state s i) ≡ key_of by i
+pub key_stays : (by : By) (s : State) (i : Held) → key_of by (with_state s i) ≡ key_of by i
 key_stays Page s i = refl
 key_stays Frame s i = refl
 key_stays Root s i = refl
@@ -80,67 +84,6 @@ all_stay after by keys places now were is = were ∙ (sym (keys_stay after by pl
 -- so does that of one, which keeps its root and its entry
 pub one_stays : (by : By) (keys : List ℕ) (places : List Held) (place : ℕ) (old new : Held) → keys ≡ map (key_of by) places → key_of by new ≡ key_of by (get_or places place old) → keys ≡ map (key_of by) (set places place new)
 one_stays by keys places place old new were is = were ∙ sym (map-set_same (key_of by) places place new old is)
-
--- the item of one place goes if the test passes it
-abbrev pub gone_at : (Held → Bool) → Held → Held
-gone_at goes i = turned (λ i. i.state) goes i
-
-pub none_at : (goes : Held → Bool) (i : Held) → has goes (gone_at goes i) ≡ false
-none_at goes i =
-    let go : (b : Bool) → goes i ≡ b → has goes (with_state (cond b Gone i.state) i) ≡ false = λ b. elim b as (λ b. goes i ≡ b → has goes (with_state (cond b Gone i.state) i) ≡ false) [
-      | true ↦ λ t. refl
-      | false ↦ λ t. ap (λ (b : Bool). is_there i && b) t ∙ and_no (is_there i)
-    ] in
-    go (goes i) refl
-
-left_first : (goes : Held → Bool) (i : Held) (gone : Bool) (rest : List Held) → is_gone i.state ≡ gone → filter (λ i. not (goes i)) (cond (is_there (gone_at goes i)) (gone_at goes i ∷ rest) rest) ≡ filter (λ i. not (goes i)) (cond (not gone) (i ∷ rest) rest)
-left_first goes i gone rest is =
-    let p : Held → Bool = λ i. not (goes i) in
-    let go : (b : Bool) → goes i ≡ b → filter p (cond (is_there (with_state (cond b Gone i.state) i)) (with_state (cond b Gone i.state) i ∷ rest) rest) ≡ filter p (cond (not gone) (i ∷ rest) rest) =
-    λ b. elim b as (λ b. goes i ≡ b → filter p (cond (is_there (with_state (cond b Gone i.state) i)) (with_state (cond b Gone i.state) i ∷ rest) rest) ≡ filter p (cond (not gone) (i ∷ rest) rest)) [
-      | true ↦ λ t. elim gone as (λ g. filter p rest ≡ filter p (cond (not g) (i ∷ rest) rest)) [ true ↦ refl | false ↦ sym (ap (λ (b : Bool). cond (not b) (i ∷ filter p rest) (filter p rest)) t) ]
-      | false ↦ λ t. ap (λ (g : Bool). filter p (cond (not g) (i ∷ rest) rest)) is
-    ] in
-    go (goes i) refl
-
-left_later : (goes : Held → Bool) (i : Held) (gone : Bool) (new old : List Held) → filter (λ i. not (goes i)) new ≡ filter (λ i. not (goes i)) old → filter (λ i. not (goes i)) (cond (not gone) (i ∷ new) new) ≡ filter (λ i. not (goes i)) (cond (not gone) (i ∷ old) old)
-left_later goes i true new old are = are
-left_later goes i false new old are = ap (λ (is : List Held). cond (not (goes i)) (i ∷ is) is) are
-
-left_at : (goes : Held → Bool) (places : List Held) (n : ℕ) (d : Held) → n < length places
-    → filter (λ i. not (goes i)) (items_of (set places n (gone_at goes (get_or places n d)))) ≡ filter (λ i. not (goes i)) (items_of places)
-left_at goes [] n d h = absurd (omega arith)
-left_at goes (i ∷ places) zero d h = left_first goes i (is_gone i.state) (items_of places) refl
-left_at goes (i ∷ places) (suc n) d h = left_later goes i (is_gone i.state) (items_of (set places n (gone_at goes (get_or places n d)))) (items_of places) (left_at goes places n d (omega arith))
-
-none_left : (f : Held → ℕ) (k : ℕ) (goes : Held → Bool) (places : List Held) (n : ℕ) (d : Held) → n < length places
-    → list_any (keyed f k (has goes)) places ≡ false → list_any (keyed f k (has goes)) (set places n (gone_at goes (get_or places n d))) ≡ false
-none_left f k goes [] n d h none = absurd (omega arith)
-none_left f k goes (i ∷ places) zero d h none =
-    (λ j. ((f (gone_at goes i) == k) && none_at goes i j) || list_any (keyed f k (has goes)) places)
-    ∙ ((λ j. and_no (f (gone_at goes i) == k) j || list_any (keyed f k (has goes)) places) ∙ (or_parts _ _ none).1)
-none_left f k goes (i ∷ places) (suc n) d h none =
-    let parts = or_parts (keyed f k (has goes) i) _ none in
-    (λ j. parts.0 j || list_any (keyed f k (has goes)) (set places n (gone_at goes (get_or places n d)))) ∙ none_left f k goes places n d (omega arith) parts.1
-
-pub without_none : (goes : Held → Bool) (places : List Held) → IsWithout goes places places
-without_none goes places = record { left = refl; keys = λ by. refl; none = λ by key none. none }
-
-pub without_both : (goes : Held → Bool) (old now new : List Held) → IsWithout goes old now → IsWithout goes now new → IsWithout goes old new
-without_both goes old now new a b =
-    record {
-      left = b.left ∙ a.left;
-      keys = λ by. b.keys by ∙ a.keys by;
-      none = λ by key none. b.none by key (a.none by key none);
-    }
-
-pub without_at : (goes : Held → Bool) (places : List Held) (n : ℕ) (d : Held) → n < length places → IsWithout goes places (set places n (gone_at goes (get_or places n d)))
-without_at goes places n d h =
-    record {
-      left = left_at goes places n d h;
-      keys = λ by. map-set_same (key_of by) places n (gone_at goes (get_or places n d)) d (key_stays by (gone_at goes (get_or places n d)).state (get_or places n d));
-      none = λ by key none. none_left (key_of by) key goes places n d h none;
-    }
 
 -- a walk goes on where the item of its place is changed, so that it is not looked for
 pub on_without : (f : Held → ℕ) (k : ℕ) (c : Held → Bool) (places : List Held) (at : ℕ) (s : Held) → IsAt f k c places at → 0 < at → c s ≡ false → map f (set places (at - 1) s) ≡ map f places

@@ -36,8 +36,9 @@ pub mod Marking
 pub mod Keyed
 pub mod Walks
 pub mod Unlinking
-pub mod Dropping
 pub mod Emptying
+pub mod Changing
+pub mod Effected
 pub mod EmptyPlaces
 pub mod Untouched
 pub mod NothingAdded

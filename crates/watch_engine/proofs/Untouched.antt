@@ -1,76 +1,76 @@
--- A store that touches nothing leaves the list.
-use Rattle.std.proofs.Common.{◌≡◌, ℕ, Bool, true, false, ◌+◌, ◌<◌, List, [], ◌∷◌, length, take, get_or, ap, ◌∙◌, refl, Option, None}
-use Rattle.std.specs.Prelude.{◌&&◌, ◌||◌, cond, filter, map, not}
+-- What a store makes of what harts may hold.
+use Rattle.std.proofs.Common.{◌≡◌, ℕ, Bool, true, false, List, [], ◌∷◌, map, get_or, ap, sym, ◌∙◌, refl, Option, None}
+use Rattle.std.specs.Prelude.{◌&&◌, ◌||◌, Some, cond, filter, is_some, not}
 use Rattle.std.specs.List.{list_any}
-use Rattle.std.proofs.lemmas.List.Folds.{list_any_more}
+use Rattle.std.proofs.lemmas.Bool.{true≢false}
 use Rattle.pte.specs.declared.scheme.Scheme.{Scheme}
-use Rattle.watch_tables.specs.declared.way.Way.{Way}
-use Rattle.watch_engine.specs.declared.held.Held.{Held}
-use Rattle.watch_engine.specs.Places.{has, is_there, items_of}
-use Rattle.watch_engine.specs.Held.{is_current_by, translation_of, with_state}
-use Rattle.watch_engine.specs.State.{is_gone, rechecked}
-use Rattle.watch_engine.specs.declared.state.State.{State}
-use Rattle.watch_engine.specs.declared.state.State.TheVariants.{Current, Gone, Stale}
-use Rattle.watch_engine.specs.Touched.{after_store, is_filled_again, is_kept_after, is_touched, is_touched_on, settled_if}
 use Rattle.walk.specs.Leads.{Tables}
 use Rattle.watch.specs.declared.trace.Space.{Space}
 use Rattle.watch.specs.Computed.{is_mapped}
 use Rattle.watch.specs.ComputedTraces.{is_live_in}
-use Rattle.watch.specs.Holding.{Translation}
+use Rattle.watch.specs.Trace.{index_of}
+use Rattle.watch_tables.specs.declared.way.Way.{Way}
+use Rattle.watch_engine.specs.declared.held.Held.{Held}
+use Rattle.watch_engine.specs.declared.state.State.{State}
+use Rattle.watch_engine.specs.declared.state.State.TheVariants.{Current, Gone, Stale}
+use Rattle.watch_engine.specs.Concerns.{concerns, store_on}
+use Rattle.watch_engine.specs.Effects.{AreThere, all_changed, or_same}
+use Rattle.watch_engine.specs.Held.{is_current_by, translation_of, with_state}
+use Rattle.watch_engine.specs.State.{is_gone, recheck_of, rechecked}
+use Rattle.watch_engine.specs.Touched.{is_filled_again, is_kept_after, is_touched, settled_if, store_change}
 use Rattle.watch_engine.proofs.Emptying.{items_turned}
 use Rattle.watch_engine.proofs.Lists.{each_of}
 use Rattle.watch_engine.proofs.Rechecks.{touched_stays}
-use Rattle.watch_engine.proofs.Walks.{and_no, or_parts}
+use Rattle.watch_engine.proofs.Walks.{and_no}
 
-pub none_of : (places : List Held) → list_any (has (λ (i : Held). false)) places ≡ false
-none_of [] = refl
-none_of (s ∷ places) = (λ j. and_no (is_there s) j || list_any (has (λ (i : Held). false)) places) ∙ none_of places
+-- what a store makes of a state
+abbrev to_state : (touched live current : Bool) (n : ℕ) → State → Option State
+to_state touched live current n s = cond touched (cond live (Some Gone) (recheck_of current n s)) None
 
-none_of_both : (p q r : Held → Bool) → ((s : Held) → r s ≡ (p s || q s)) → (places : List Held) → list_any p places ≡ false → list_any q places ≡ false → list_any r places ≡ false
-none_of_both p q r is [] first second = refl
-none_of_both p q r is (s ∷ places) first second =
-    let a = or_parts (p s) _ first in
-    let b = or_parts (q s) _ second in
-    ap (λ (t : Bool). t || list_any r places) (is s ∙ (λ j. a.0 j || b.0 j)) ∙ none_of_both p q r is places a.1 b.1
+-- it is made once
+pub made_once : (touched live current : Bool) (n : ℕ) (s : State) → (not (is_gone (or_same (to_state touched live current n s) s)) && is_some (to_state touched live current n (or_same (to_state touched live current n s) s))) ≡ false
+made_once false live current n s = and_no (not (is_gone s))
+made_once true true current n s = refl
+made_once true false true n Current = refl
+made_once true false false n Current = refl
+made_once true false true n (Stale given since) = refl
+made_once true false false n (Stale given since) = refl
+made_once true false current n Gone = refl
 
-and_either : (a b c : Bool) → (a && (b || c)) ≡ ((a && b) || (a && c))
-and_either true b c = refl
-and_either false b c = refl
+turned_state : (touched live current : Bool) (n : ℕ) (s : State) → cond (is_gone s) s (or_same (to_state touched live current n s) s) ≡ cond (touched && live) Gone (cond touched (rechecked current n s) s)
+turned_state false live current n Current = refl
+turned_state false live current n (Stale given since) = refl
+turned_state false live current n Gone = refl
+turned_state true true current n Current = refl
+turned_state true true current n (Stale given since) = refl
+turned_state true true current n Gone = refl
+turned_state true false true n Current = refl
+turned_state true false false n Current = refl
+turned_state true false true n (Stale given since) = refl
+turned_state true false false n (Stale given since) = refl
+turned_state true false current n Gone = refl
 
--- with one more way that touches none
-pub no_more : (scheme : Scheme) (roots : List ℕ) (index : ℕ) (ways : List Way) (n : ℕ) (d : Way) (places : List Held) → n < length ways
-    → list_any (has (λ i. is_touched scheme roots index (take n ways) (translation_of i))) places ≡ false
-    → list_any (has (λ i. is_touched_on scheme roots index (translation_of i) (get_or ways n d))) places ≡ false
-    → list_any (has (λ i. is_touched scheme roots index (take (n + 1) ways) (translation_of i))) places ≡ false
-no_more scheme roots index ways n d places within before here =
-    none_of_both (has (λ i. is_touched scheme roots index (take n ways) (translation_of i))) (has (λ i. is_touched_on scheme roots index (translation_of i) (get_or ways n d)))
-    (has (λ i. is_touched scheme roots index (take (n + 1) ways) (translation_of i)))
-    (λ s. ap (λ (b : Bool). is_there s && b) (list_any_more (is_touched_on scheme roots index (translation_of s)) ways n d within)
-    ∙ and_either (is_there s) (is_touched scheme roots index (take n ways) (translation_of s)) (is_touched_on scheme roots index (translation_of s) (get_or ways n d)))
-    places before here
+-- each item that is changed lies below the word on one of the ways
+on_a_way : (scheme : Scheme) (roots : List ℕ) (address : ℕ) (i : Held) (ways : List Way) → list_any (λ c. concerns c i) (map (store_on scheme roots address) ways) ≡ is_touched scheme roots (index_of address) ways (translation_of i)
+on_a_way scheme roots address i [] = refl
+on_a_way scheme roots address i (way ∷ ways) = ap (λ (b : Bool). concerns (store_on scheme roots address way) i || b) (on_a_way scheme roots address i ways)
 
-same_state : (touched current live : Bool) (n : ℕ) (s : State) → (not (is_gone s) && touched) ≡ false → cond (touched && live) Gone (cond touched (rechecked current n s) s) ≡ s
-same_state false current live n s none = refl
-same_state true current live n Current none = cc
-same_state true current live n (Stale given since) none = cc
-same_state true current true n Gone none = refl
-same_state true current false n Gone none = refl
+if_touched : (touched : Bool) (to : Option State) → is_some (cond touched to None) ≡ true → touched ≡ true
+if_touched true to is = refl
+if_touched false to is = absurd (true≢false (sym is))
 
-module _ (scheme : Scheme) (words : Tables) (satps : List (Option Space)) (roots : List ℕ) (index : ℕ) (ways : List Way) (n : ℕ) where
-  -- where nothing is touched, each place is left as it is
-  pub same_places : (places : List Held) → list_any (has (λ i. is_touched scheme roots index ways (translation_of i))) places ≡ false → map (after_store scheme words satps roots index ways n) places ≡ places
-  same_places [] none = refl
-  same_places (i ∷ places) none =
-      let x : Translation = translation_of i in
-      let parts = or_parts (has (λ i. is_touched scheme roots index ways (translation_of i)) i) _ none in
-      let same = same_state (is_touched scheme roots index ways x) (is_current_by (is_mapped scheme words) roots x) (is_live_in scheme words (get_or satps i.hart None) x) n i.state parts.0 in
-      λ j. with_state (same j) i ∷ same_places places parts.1 j
+pub told : (scheme : Scheme) (words : Tables) (satps : List (Option Space)) (roots : List ℕ) (address : ℕ) (ways : List Way) (n : ℕ) (i : Held)
+    → is_some (store_change scheme words satps roots (index_of address) ways n i) ≡ true → list_any (λ c. concerns c i) (map (store_on scheme roots address) ways) ≡ true
+told scheme words satps roots address ways n i is = on_a_way scheme roots address i ways ∙ if_touched (is_touched scheme roots (index_of address) ways (translation_of i)) _ is
 
-  -- what is left in all places
-  pub store_left : (places : List Held) → items_of (map (after_store scheme words satps roots index ways n) places)
-      ≡ map (λ i. settled_if (is_touched scheme roots index ways (translation_of i)) (is_current_by (is_mapped scheme words) roots (translation_of i)) n i) (filter (is_kept_after scheme words satps roots index ways) (items_of places))
-  store_left places =
-      let touch : Held → Bool = λ i. is_touched scheme roots index ways (translation_of i) in
-      let current : Held → Bool = λ i. is_current_by (is_mapped scheme words) roots (translation_of i) in
-      let after : Held → State = λ i. (settled_if (touch i) (current i) n i).state in
-      items_turned after (is_filled_again scheme words satps roots index ways) places (each_of (λ i. is_gone (after i) ≡ is_gone i.state) (λ i. touched_stays (touch i) (current i) n i.state) places)
+pub store_left : (scheme : Scheme) (words : Tables) (satps : List (Option Space)) (roots : List ℕ) (index : ℕ) (ways : List Way) (n : ℕ) (held : List Held) → AreThere held
+    → all_changed (store_change scheme words satps roots index ways n) held
+    ≡ map (λ i. settled_if (is_touched scheme roots index ways (translation_of i)) (is_current_by (is_mapped scheme words) roots (translation_of i)) n i) (filter (is_kept_after scheme words satps roots index ways) held)
+store_left scheme words satps roots index ways n held there =
+    let touch : Held → Bool = λ i. is_touched scheme roots index ways (translation_of i) in
+    let current : Held → Bool = λ i. is_current_by (is_mapped scheme words) roots (translation_of i) in
+    let live : Held → Bool = λ i. is_live_in scheme words (get_or satps i.hart None) (translation_of i) in
+    let after : Held → State = λ i. (settled_if (touch i) (current i) n i).state in
+    (λ j. filter (λ i. not (is_gone i.state)) (map (λ i. with_state (turned_state (touch i) (live i) (current i) n i.state j) i) held))
+    ∙ (items_turned after (is_filled_again scheme words satps roots index ways) held (each_of (λ i. is_gone (after i) ≡ is_gone i.state) (λ i. touched_stays (touch i) (current i) n i.state) held)
+    ∙ ap (λ (is : List Held). map (λ i. with_state (after i) i) (filter (is_kept_after scheme words satps roots index ways) is)) there)

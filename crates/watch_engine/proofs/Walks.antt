@@ -3,7 +3,7 @@ use Rattle.std.proofs.Common.{◌≡◌, ℕ, Bool, true, false, zero, suc, ◌+
 use Rattle.std.specs.Prelude.{◌==◌, ◌&&◌, ◌||◌, ◌⊎◌, cond, if◌then◌else◌}
 use Rattle.std.specs.List.{list_any}
 use Rattle.std.proofs.lemmas.Bool.{cases_Bool, eq-eqb, eqb-false, eqb-true, false_from_ne_true, true≢false}
-use Rattle.std.proofs.lemmas.List.{drop_all, drop_more, get_or-map, get_or-take, length-map, length-take-le, take-map, take-take, take_all}
+use Rattle.std.proofs.lemmas.List.{drop_all, drop_more, get_or-map, length-map, length-take-le, take_all}
 use Rattle.watch_engine.specs.declared.held.Held.{Held}
 use Rattle.std.proofs.Math.Seq.{take-suc}
 use Rattle.watch_engine.specs.Chains.{IsFirst, IsNext, bucket_of, last_place}
@@ -260,46 +260,8 @@ pub looks_done : (buckets : ℕ) (f : Held → ℕ) (k : ℕ) (t : Held → Bool
     → Looks buckets f k t items at front after → at ≤ front → place_in t 0 items ≡ after
 looks_done buckets f k t items at front after w met = w.is ∙ ap (λ (o : Option ℕ). first_or o after) (place_fewer t 0 items at front met w.none)
 
--- of fewer items none passes either
-pub any_fewer : (t : Held → Bool) (items : List Held) (n m : ℕ) → n ≤ m → list_any t (take m items) ≡ false → list_any t (take n items) ≡ false
-any_fewer t items zero m h none = refl
-any_fewer t [] (suc n) m h none = refl
-any_fewer t (i ∷ items) (suc n) zero h none = absurd (omega arith)
-any_fewer t (i ∷ items) (suc n) (suc m) h none =
-    let parts = or_parts (t i) _ none in
-    ap (λ (b : Bool). b || list_any t (take n items)) parts.0 ∙ any_fewer t items n m (omega arith) parts.1
-
 pub below_or_is : (n m : ℕ) → n < m + 1 → (n < m) ⊎ (n ≡ m)
 below_or_is n m h = elim (cases_Bool (n == m)) [
   | inl is ↦ inr (eqb-true _ _ is)
   | inr differs ↦ (let other = eqb-false _ _ differs in inl (omega arith))
 ]
-
--- a walk for the oldest item with a key that a test passes is at a place, and has found what is from there on
-pub record Seeks (f : Held → ℕ) (k : ℕ) (c : Held → Bool) (items : List Held) (at first : ℕ) : Type 0 where
-  pub reached : at ≤ first
-  pub within : first ≤ length items
-  pub walk : IsAt f k c (take first items) at
-
-pub seeks_first : (f : Held → ℕ) (k : ℕ) (c : Held → Bool) (items : List Held) (at first : ℕ) → first ≡ length items → at ≡ last_place k (map f items) → Seeks f k c items at first
-seeks_first f k c items at first all is =
-    let walk = start f k c items at is in
-    record { reached = omega (arith, walk.within); within = omega arith; walk = subst (λ (l : List Held). IsAt f k c l at) (sym (take_all first items (omega arith))) walk }
-
-pub seeks_on : (f : Held → ℕ) (k : ℕ) (c : Held → Bool) (items : List Held) (at : ℕ) (d : Held) (first : ℕ) → Seeks f k c items at first → 0 < at
-    → (older : ℕ) → older ≡ last_place (get_or (map f items) (at - 1) 0) (take (at - 1) (map f items))
-    → Seeks f k c items older (if c (get_or items (at - 1) d) then at - 1 else first)
-seeks_on f k c items at d first w some older is =
-    let low : at - 1 < first = omega (arith, w.reached) in
-    let keys : take first (map f items) ≡ map f (take first items) = take-map f first items in
-    let key : get_or (map f items) (at - 1) 0 ≡ k = sym (get_or-take first (map f items) (at - 1) 0 low) ∙ (ap (λ (ks : List ℕ). get_or ks (at - 1) 0) keys ∙ w.walk.key some) in
-    let go : (b : Bool) → c (get_or items (at - 1) d) ≡ b → Seeks f k c items older (if b then at - 1 else first) = λ b. elim b as (λ b. c (get_or items (at - 1) d) ≡ b → Seeks f k c items older (if b then at - 1 else first)) [
-      | true ↦ λ t.
-          let walk = start f k c (take (at - 1) items) older (is ∙ (λ j. last_place (key j) (take-map f (at - 1) items j))) in
-          record { reached = omega (arith, walk.within, length-take-le (at - 1) items (omega (arith, w.within))); within = omega (arith, w.within); walk = walk }
-      | false ↦ λ t.
-          let front : take (at - 1) (map f items) ≡ take (at - 1) (map f (take first items)) = sym (take-take (at - 1) first (map f items) (omega arith)) ∙ ap (take (at - 1)) keys in
-          let walk = next f k c (take first items) at d w.walk some (ap c (get_or-take first items (at - 1) d low) ∙ t) older (is ∙ (λ j. last_place ((key ∙ sym (w.walk.key some)) j) (front j))) in
-          record { reached = omega (arith, walk.within, length-take-le first items w.within); within = w.within; walk = walk }
-    ] in
-    go (c (get_or items (at - 1) d)) refl

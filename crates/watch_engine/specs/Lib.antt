@@ -17,7 +17,9 @@ pub mod WorkedWarnings
 pub mod Standing
 pub mod Watching
 pub mod Keys
+pub mod Indexes
 pub mod Concerns
+pub mod Effects
 pub mod Filling
 pub mod Places
 pub mod Shared

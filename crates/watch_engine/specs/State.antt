@@ -1,6 +1,6 @@
 -- The state of a translation that a hart may hold: whether the tables have it and, where they do not,
 -- since when, and which verdicts it has had since then; or that it has gone.
-use Rattle.std.specs.Prelude.{ℕ, Bool, true, false, ◌||◌, Option, Some, None, if◌then◌else◌}
+use Rattle.std.specs.Prelude.{ℕ, Bool, true, false, not, ◌&&◌, ◌||◌, Option, Some, None, if◌then◌else◌}
 use Rattle.watch.specs.declared.trace.Verdict.{Verdict}
 use Rattle.watch.specs.declared.trace.Verdict.TheVariants.{Free, Reuse, Claimed, Used}
 use Rattle.watch_engine.specs.declared.state.Given.{Given}
@@ -72,3 +72,24 @@ given_all more Gone = Gone
 
 abbrev pub given_too : Verdict → State → State
 given_too verdict s = given_all (alone verdict true) s
+
+-- the state to which a recheck changes it, if it does
+abbrev pub recheck_of : Bool → ℕ → State → Option State
+recheck_of current now Current = if current then None else Some (Stale none_given now)
+recheck_of current now (Stale given since) = if current then Some Current else None
+recheck_of current now Gone = None
+
+-- the same of a recheck of what is current alone
+abbrev pub stale_of : Bool → ℕ → State → Option State
+stale_of current now Current = if current then None else Some (Stale none_given now)
+stale_of current now (Stale given since) = None
+stale_of current now Gone = None
+
+-- the state to which a verdict changes it, if it does
+abbrev pub given_of : Verdict → State → Option State
+given_of verdict Current = None
+given_of verdict (Stale given since) =
+    if is_once verdict && not (was_given verdict given)
+    then Some (Stale (joint (alone verdict true) given) since)
+    else None
+given_of verdict Gone = None

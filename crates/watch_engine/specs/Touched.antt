@@ -1,6 +1,6 @@
 -- Which translations a store to a word can concern: those whose page lies below the word on a way to
 -- its table, from the translation's root or, where it is global, from any of these roots.
-use Rattle.std.specs.Prelude.{ℕ, Bool, not, ◌+◌, ◌*◌, ◌==◌, ◌&&◌, ◌||◌, nat_le, if◌then◌else◌, List, Option, None, get_or}
+use Rattle.std.specs.Prelude.{ℕ, Bool, not, ◌+◌, ◌*◌, ◌==◌, ◌&&◌, ◌||◌, nat_le, if◌then◌else◌, List, Option, None, Some, get_or}
 use Rattle.std.specs.List.{list_any}
 use Rattle.pte.specs.declared.scheme.Scheme.{Scheme}
 use Rattle.pte.specs.declared.address.TheConstants.{TABLE_LENGTH}
@@ -14,8 +14,9 @@ use Rattle.watch_tables.specs.Ways.{vpn_from}
 use Rattle.watch_engine.specs.declared.held.Held.{Held}
 use Rattle.watch_tables.specs.declared.way.Way.{Way}
 use Rattle.watch_engine.specs.Held.{is_current_by, translation_of, with_state}
-use Rattle.watch_engine.specs.Places.{turned}
-use Rattle.watch_engine.specs.State.{rechecked}
+use Rattle.watch_engine.specs.declared.state.State.{State}
+use Rattle.watch_engine.specs.declared.state.State.TheVariants.{Gone}
+use Rattle.watch_engine.specs.State.{recheck_of, rechecked}
 
 abbrev pub is_below : Scheme → ℕ → Span → Way → Bool
 is_below scheme index page way =
@@ -52,10 +53,11 @@ abbrev pub settled_if : Bool → Bool → ℕ → Held → Held
 settled_if touched current now i =
     with_state (if touched then rechecked current now i.state else i.state) i
 
--- what a store makes of it, by what the tables have then
-abbrev pub after_store : Scheme → Tables → List (Option Space) → List ℕ → ℕ → List Way → ℕ → Held → Held
-after_store scheme words satps roots index ways now i =
-    turned
-    (λ i. (settled_if (is_touched scheme roots index ways (translation_of i))
-    (is_current_by (is_mapped scheme words) roots (translation_of i)) now i).state)
-    (is_filled_again scheme words satps roots index ways) i
+-- the state to which a store changes it, if it does, by what the tables have then
+abbrev pub store_change :
+    Scheme → Tables → List (Option Space) → List ℕ → ℕ → List Way → ℕ → Held → Option State
+store_change scheme words satps roots index ways now i =
+    if is_touched scheme roots index ways (translation_of i)
+    then (if is_live_in scheme words (get_or satps i.hart None) (translation_of i) then Some Gone
+    else recheck_of (is_current_by (is_mapped scheme words) roots (translation_of i)) now i.state)
+    else None

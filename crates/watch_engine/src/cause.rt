@@ -3,13 +3,12 @@
 ghost use Rattle.std.specs.Prelude.{◌≡◌, ◌<◌};
 ghost use Rattle.watch.specs.Verdicts.{is_claimed};
 ghost use Rattle.tlb.specs.Entries.{is_match};
-ghost use Rattle.watch_engine.specs.Held.{is_by, is_claimed_by, is_exposed_by, is_served_in, is_used_by, marked_if, shares, translation_of};
+ghost use Rattle.watch_engine.specs.Held.{is_by, is_claimed_by, is_exposed_by, is_served_in, is_used_by, shares, translation_of};
 ghost use Rattle.watch_engine.specs.Causes.{applies, is_given_by, verdict_of};
 
 use crate::fence::reaches;
 use crate::held::Held;
 use crate::open::OpenClaim;
-use crate::state_change::StateChange;
 use tlb::Entry;
 use watch::{Claim, Frames, Space, Verdict};
 
@@ -125,18 +124,6 @@ impl Cause {
             Cause::Out(_) => Verdict::Reuse,
             Cause::Claim(_) => Verdict::Claimed,
             Cause::Access { .. } => Verdict::Used,
-        }
-    }
-}
-
-impl StateChange for Cause {
-    ghost after = { λ cause i. (marked_if (verdict_of cause) (applies cause) i).state };
-
-    // With the cause's verdict, if it is of the item.
-    #[inline]
-    fn apply(&self, item: &mut Held) {
-        if item.is_of_cause(self) {
-            item.state.give(self.verdict());
         }
     }
 }

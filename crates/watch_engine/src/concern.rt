@@ -50,6 +50,8 @@ pub(crate) enum Concern {
         way: Way,
         is_root: bool,
     },
+    /// Anything.
+    All,
 }
 
 // The keys of pages of 4 KiB from a number on, and of the megapages that these lie in.
@@ -228,6 +230,7 @@ impl Concern {
                 is_root,
                 ..
             } => keys_of_store(*address, way, *is_root),
+            Concern::All => None,
         }
     }
 
@@ -253,6 +256,7 @@ impl Concern {
                 is_below(*scheme, *address, &item.entry.page, way)
                     && (way.root == item.root || item.entry.global && *is_root)
             }
+            Concern::All => true,
         }
     }
 }

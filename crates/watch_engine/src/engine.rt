@@ -8,10 +8,10 @@ ghost use Rattle.watch_engine.specs.Open.{claim_begun};
 ghost use Rattle.watch_engine.specs.Warnings.{AreWarnings};
 
 use crate::cause::Cause;
+use crate::effects::{drop_fenced, drop_remote, find_again, mark_given, settle_taken};
 use crate::kept_ways::KeptWays;
 use crate::left::{add_ended, add_fence};
 use crate::left_spaces::LeftSpaces;
-use crate::list::{drop_fenced, drop_remote, find_again, mark_given, settle_taken};
 use crate::open::{OpenClaim, OpenFence, end_claim, end_fence, newest_claim, newest_fence};
 use crate::page_runs::remember_all;
 use crate::past_fences::PastFences;
@@ -19,6 +19,7 @@ use crate::roots::Roots;
 use crate::satps::{Satps, satp_in};
 use crate::seen::{add_seen, add_seen_in};
 use crate::tables::Tables;
+use crate::touched::settle_touched;
 use crate::translation_index::TranslationIndex;
 use crate::warning::{Warning, warnings};
 use pte::Scheme;
@@ -136,7 +137,8 @@ impl<T: Tables> Watch<T> {
         let stay = self.tables.keeps_ways(address, word);
         self.tables.store(address, word, self.count + 1)?;
         self.count += 1;
-        self.held.settle_touched(
+        settle_touched(
+            &mut self.held,
             &self.tables,
             self.scheme,
             self.satps.spaces(),

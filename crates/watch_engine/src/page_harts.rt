@@ -6,7 +6,7 @@ ghost use Rattle.watch_engine.specs.Places.{has, items_of};
 
 use crate::held::Held;
 use crate::held_list::HeldList;
-use crate::keys::{is_that_page, page_key};
+use crate::keys::{By, is_that_page, page_key};
 use crate::shared::HARTS;
 use pte::Page;
 
@@ -32,12 +32,13 @@ impl HeldList {
         let places = self.places.as_slice();
         let mut harts = [false; HARTS];
         let mut steps = HARTS_STEPS;
-        let Some(mut at) = self.pages.newest(page_key(page), &mut steps) else {
+        let pages = self.indexes.by(By::Page);
+        let Some(mut at) = pages.newest(page_key(page), &mut steps) else {
             return [true; HARTS];
         };
         while at > 0 {
             add_hart_of(&mut harts, page, &places[at - 1]);
-            let Some(older) = self.pages.before(at, &mut steps) else {
+            let Some(older) = pages.before(at, &mut steps) else {
                 return [true; HARTS];
             };
             at = older;

@@ -49,7 +49,11 @@ fn begins_run(live: &[LastLive], at: usize) -> bool
 
 // With translations from a place on up to one of another page. The answer is the place of that one.
 // At `Err` some of them are there.
-fn remember_run(held: &mut TranslationIndex, live: &[LastLive], start: usize) -> Result<usize, AllocError>
+fn remember_run(
+    held: &mut TranslationIndex,
+    live: &[LastLive],
+    start: usize,
+) -> Result<usize, AllocError>
     requires { start < length live.now }
     ensures end { IfOk result (λ end. start < end) }
     ensures ok { IfOk result (λ end. AreRememberedUpTo live.now start end

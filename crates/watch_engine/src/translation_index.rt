@@ -1,27 +1,20 @@
 //! What harts may hold.
 
-ghost use Rattle.std.specs.Prelude.{◌≡◌, ◌++◌, ◌∷◌, [], OnErr, OnOk, false, filter, map, not};
+ghost use Rattle.std.specs.Prelude.{◌≡◌, ◌++◌, ◌∷◌, [], OnErr, OnOk, false, filter, not};
 ghost use Rattle.std.specs.List.{list_any};
-ghost use Rattle.watch.specs.Computed.{is_mapped};
-ghost use Rattle.watch.specs.Trace.{index_of};
 ghost use Rattle.watch_engine.specs.Concerns.{concerns};
-ghost use Rattle.watch_engine.specs.Held.{held_from, is_current_by, remembered, translation_of, with_state};
+ghost use Rattle.watch_engine.specs.Effects.{AreThere, all_changed};
+ghost use Rattle.watch_engine.specs.Held.{held_from, remembered};
 ghost use Rattle.watch_engine.specs.PageRuns.{AreHartsOf};
-ghost use Rattle.watch_engine.specs.Touched.{is_kept_after, is_touched, settled_if};
 
 use crate::concern::Concern;
+use crate::effect::{Drops, Effect};
 use crate::held::LastLive;
 use crate::held_list::{HeldList, Items};
-use crate::roots::Roots;
 use crate::shared::HARTS;
-use crate::state_change::StateChange;
-use crate::tables::Tables;
-use crate::touched::settle_touched;
-use pte::{Page, Scheme};
+use pte::Page;
 use std::alloc::{AllocError, Global};
 use std::marker::Model;
-use watch::Space;
-use watch_tables::Way;
 
 /// What harts may hold and the tables do not tell, found by page, by frame and by root.
 #[derive(Drop)]
@@ -86,46 +79,18 @@ impl TranslationIndex {
         self.list.remember(live)
     }
 
-    /// With the state of each item changed.
-    pub(crate) fn change_all<C: StateChange>(&mut self, change: &C)
-        ensures { self.new ≡ map (λ i. with_state (C.after change.now i) i) self.old }
+    /// With what the effect makes of each item. Nothing that is listed has gone.
+    pub(crate) fn apply<E: Effect>(&mut self, effect: &mut E)
+        ensures left { self.new ≡ all_changed (E.does effect.old).change self.old }
+        ensures there { AreThere self.old }
     {
-        self.list.change_all(change);
+        self.list.apply(effect);
     }
 
     /// Without the items that the record concerns.
-    pub(crate) fn drop_of(&mut self, concern: &Concern)
-        ensures { self.new ≡ filter (λ i. not (concerns concern.now i)) self.old }
+    pub(crate) fn drop_of(&mut self, concern: Concern)
+        ensures { self.new ≡ filter (λ i. not (concerns concern i)) self.old }
     {
-        self.list.drop_of(concern);
-    }
-
-    /// With what the tables have now of those that the store concerns, and without those that can be
-    /// filled again.
-    pub(crate) fn settle_touched<T: Tables>(
-        &mut self,
-        tables: &T,
-        scheme: Scheme,
-        satps: &[Option<Space>],
-        roots: &Roots,
-        address: u64,
-        ways: &[Way],
-        count: u64,
-    )
-        ensures { self.new ≡ map (λ i. settled_if (is_touched scheme roots.now
-            (index_of address) ways.now (translation_of i)) (is_current_by (is_mapped scheme
-            (T.words tables.now)) roots.now (translation_of i)) count i) (filter (is_kept_after scheme
-            (T.words tables.now) satps.now roots.now (index_of address) ways.now) self.old) }
-    {
-        settle_touched(
-            &mut self.list,
-            tables,
-            scheme,
-            satps,
-            roots,
-            address,
-            ways,
-            count,
-        );
+        self.apply(&mut Drops { concern });
     }
 }

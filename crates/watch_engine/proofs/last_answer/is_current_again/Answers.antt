@@ -1,4 +1,4 @@
-use Rattle.std.proofs.Common.{◌≡◌, ◌∙◌, sym, subst, Bool, true}
+use Rattle.std.proofs.Common.{◌≡◌, ◌∙◌, sym, Bool, true}
 use Rattle.watch.specs.Holding.{Translation}
 use Rattle.watch.specs.Computed.{is_mapped}
 use Rattle.watch_engine.specs.LastAnswer.{IsAnswered}
@@ -10,7 +10,7 @@ pub returns-then-is_same_entry-clause-value : goal.returns-then-is_same_entry-cl
 returns-then-is_same_entry-clause-value g c =
     let test : Translation → Bool = is_current_by (is_mapped c.args.scheme (g.T.Tables.words c.args.tables.now)) c.args.roots.now in
     let right : IsAnswered test c.args.last.now = c.requires in
-    let of : c.in-Some.answer.current ≡ test (record { root = c.in-Some.answer.root; entry = c.in-Some.answer.entry }) = subst (IsAnswered test) c.in-Some.is right in
+    let of : c.in-Some.answer.current ≡ test (record { root = c.in-Some.answer.root; entry = c.in-Some.answer.entry }) = right c.in-Some.answer c.in-Some.is in
     let same : is_same_entry c.in-Some.answer.entry c.args.entry.now ≡ true = sym c.is_same_entry.ensures ∙ c.if-is_same_entry.true in
     let entry : c.in-Some.answer.entry ≡ c.args.entry.now = same_entry _ _ same in
     of ∙ (λ j. test (record { root = c.if-answer-root.true j; entry = entry j }))

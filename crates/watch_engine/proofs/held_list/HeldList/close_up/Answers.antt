@@ -1,6 +1,5 @@
 use Rattle.std.proofs.Common.{◌≡◌, ◌∙◌, List, ap, map, arith, rules}
 use Rattle.std.proofs.lemmas.Fn.{filter_same}
-use Rattle.watch_engine.specs.declared.keys.By.TheVariants.{Frame, Page, Root}
 use Rattle.watch_engine.specs.declared.held.Held.{Held}
 use Rattle.watch_engine.specs.Keys.{key_of}
 use Rattle.watch_engine.specs.Places.{count_gone, items_of}
@@ -23,11 +22,5 @@ invariant_of-self-clause-counted c =
     let none : count_gone c.retain.new.self.items ≡ 0 = ap (λ (l : List Held). count_gone l) left ∙ (all_closed c.args.self.now.places.items).none in
     omega arith
 
-pub invariant_of-self-clause-by_page : goal.invariant_of-self-clause-by_page
-invariant_of-self-clause-by_page c = c.relink_all.ensures.pages ∙ ap (map (key_of Page)) c.as_slice.ensures.value
-
-pub invariant_of-self-clause-by_frame : goal.invariant_of-self-clause-by_frame
-invariant_of-self-clause-by_frame c = c.relink_all.ensures.frames ∙ ap (map (key_of Frame)) c.as_slice.ensures.value
-
-pub invariant_of-self-clause-by_root : goal.invariant_of-self-clause-by_root
-invariant_of-self-clause-by_root c = c.relink_all.ensures.roots ∙ ap (map (key_of Root)) c.as_slice.ensures.value
+pub invariant_of-self-clause-indexed : goal.invariant_of-self-clause-indexed
+invariant_of-self-clause-indexed c = λ by. c.relink.ensures by ∙ ap (map (key_of by)) c.as_slice.ensures.value

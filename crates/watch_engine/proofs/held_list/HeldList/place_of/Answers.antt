@@ -21,11 +21,11 @@ pub loop-front-init : goal.loop-front-init
 loop-front-init c =
     let hart : ℕ = c.args.live.now.hart in
     let x : Translation = last_translation c.args.live.now in
-    let buckets : ℕ = length c.args.self.now.pages.heads.items in
+    let buckets : ℕ = length c.by-pages.result.now.heads.items in
     let key : c.key_of-key.result ≡ page_key x.entry.page = c.key_of-key.ensures ∙ ap (key_of Page) c.from_live.ensures in
     looks_first buckets (key_of Page) (page_key x.entry.page) (has (is_of hart x)) (same_page hart x) c.args.self.now.places.items c.head-at.result
     (subst (λ (k : ℕ). IsFirst buckets (map (key_of Page) c.args.self.now.places.items) k c.head-at.result) key
-    (subst (λ (keys : List ℕ). IsFirst buckets keys c.key_of-key.result c.head-at.result) c.args.self.now.by_page c.head-at.ensures))
+    (subst (λ (keys : List ℕ). IsFirst buckets keys c.key_of-key.result c.head-at.result) (c.by-pages.ensures ∙ c.args.self.now.indexed Page) c.head-at.ensures))
 
 pub bounds-places-front : goal.bounds-places-front
 bounds-places-front c =
@@ -49,8 +49,8 @@ bounds-places-at c =
 
 pub older-at-requires-clause-within : goal.older-at-requires-clause-within
 older-at-requires-clause-within c =
-    let size : length c.args.self.now.pages.keys.items ≡ length c.args.self.now.places.items =
-    ap length c.args.self.now.by_page ∙ length-map c.args.self.now.places.items (key_of Page) in
+    let size : length c.by-pages.result.now.keys.items ≡ length c.args.self.now.places.items =
+    ap length (c.by-pages.ensures ∙ c.args.self.now.indexed Page) ∙ length-map c.args.self.now.places.items (key_of Page) in
     omega (arith, c.loop-front.invariant.within)
 
 pub loop-front-smaller : goal.loop-front-smaller
@@ -60,7 +60,7 @@ pub loop-front-preserved : goal.loop-front-preserved
 loop-front-preserved c =
     let hart : ℕ = c.args.live.now.hart in
     let x : Translation = last_translation c.args.live.now in
-    let buckets : ℕ = length c.args.self.now.pages.heads.items in
+    let buckets : ℕ = length c.by-pages.result.now.heads.items in
     let at : ℕ = c.loop-front.at in
     let front : ℕ = c.loop-front.front in
     let items : List Held = c.args.self.now.places.items in
@@ -71,7 +71,7 @@ loop-front-preserved c =
     let tested : has (is_of hart x) (get_or items (at - 1) d) ≡ c.is_of_live-in-loop-front.result = ap (has (is_of hart x)) (sym read) ∙ sym c.is_of_live-in-loop-front.ensures in
     let on = looks_on buckets (key_of Page) (page_key x.entry.page) (has (is_of hart x)) (same_page hart x) items at front d e c.loop-front.found c.loop-front.invariant c.loop-front-test.true
     (ap (has (is_of hart x)) (sym read_front) ∙ sym c.is_of_live.ensures ∙ c.if-is_of_live.false) c.older-at.result
-    (subst (λ (keys : List ℕ). IsNext buckets keys at c.older-at.result) c.args.self.now.by_page c.older-at.ensures) in
+    (subst (λ (keys : List ℕ). IsNext buckets keys at c.older-at.result) (c.by-pages.ensures ∙ c.args.self.now.indexed Page) c.older-at.ensures) in
     let now : (if has (is_of hart x) (get_or items (at - 1) d) then Some (at - 1) else c.loop-front.found) ≡ c.if-is_of_live-2.found = elim c.if-is_of_live-2.branch [
       | then-is_of_live-2 w ↦ ap (λ (b : Bool). if b then Some (at - 1) else c.loop-front.found) (tested ∙ w.if-is_of_live-2.true) ∙ sym w.found-is
       | else-is_of_live-2 w ↦ ap (λ (b : Bool). if b then Some (at - 1) else c.loop-front.found) (tested ∙ w.if-is_of_live-2.false) ∙ sym w.found-is

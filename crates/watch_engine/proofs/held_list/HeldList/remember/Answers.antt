@@ -1,8 +1,9 @@
 use Rattle.std.specs.Prelude.{OnOk}
-use Rattle.std.proofs.Common.{rules, ◌≡◌, ◌∙◌, length, sym, ap, subst, arith, List, get_or, set, vec_len}
+use Rattle.std.proofs.Common.{rules, ℕ, refl, ◌≡◌, ◌∙◌, length, sym, ap, subst, arith, List, get_or, set, vec_len}
 use Rattle.watch_engine.specs.declared.held.Held.{Held}
 use Rattle.watch_tables.specs.Ways.{later}
 use Rattle.watch_engine.specs.Held.{remembered}
+use Rattle.watch_engine.specs.declared.keys.By.{By}
 use Rattle.watch_engine.specs.declared.keys.By.TheVariants.{Frame, Page, Root}
 use Rattle.watch_engine.specs.Keys.{key_of}
 use Rattle.watch_engine.specs.Places.{items_of}
@@ -17,6 +18,12 @@ returns-in_default-clause-ok c =
     let none = none_placed c.place_of.result c.in_default.not-Some in
     let places : List Held = c.args.self.now.places.items in
     subst (λ (held : List Held). OnOk c.push.result (items_of c.push.new.self.places.items ≡ held)) (sym (not_placed c.args.live.now 0 places (sym c.place_of.ensures ∙ none))) c.push.ensures.ok
+
+-- what was live later has the same keys
+touch_keeps : (by : By) (last : ℕ) (i : Held) → key_of by (record i { last_live = later i.last_live last }) ≡ key_of by i
+touch_keeps Page last i = refl
+touch_keeps Frame last i = refl
+touch_keeps Root last i = refl
 
 pub index_mut-requires : goal.index_mut-requires
 index_mut-requires c =
@@ -39,8 +46,6 @@ invariant_of-self c =
     let places : List Held = c.args.self.now.places.items in
     let read = c.index_mut.ensures.value in
     record {
-      by_page = one_stays Page _ places c.in-Some.place old new c.args.self.now.by_page (ap (key_of Page) c.touch.ensures ∙ ap (key_of Page) read);
-      by_frame = one_stays Frame _ places c.in-Some.place old new c.args.self.now.by_frame (ap (key_of Frame) c.touch.ensures ∙ ap (key_of Frame) read);
-      by_root = one_stays Root _ places c.in-Some.place old new c.args.self.now.by_root (ap (key_of Root) c.touch.ensures ∙ ap (key_of Root) read);
+      indexed = λ by. one_stays by _ places c.in-Some.place old new (c.args.self.now.indexed by) (ap (key_of by) c.touch.ensures ∙ (touch_keeps by c.args.live.now.last_live old ∙ ap (key_of by) read));
       counted = omega (arith, gone_same places c.in-Some.place old new read (ap (λ (i : Held). is_gone i.state) c.touch.ensures), c.args.self.now.counted);
     }

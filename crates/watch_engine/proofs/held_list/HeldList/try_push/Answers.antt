@@ -3,7 +3,6 @@ use Rattle.std.specs.Prelude.{Err, Ok, OnOk}
 use Rattle.std.specs.Result.{is_ok}
 use Rattle.std.specs.declared.result.Result.{Result}
 use Rattle.std.proofs.lemmas.Bool.{true≢false}
-use Rattle.watch_engine.specs.declared.keys.By.TheVariants.{Frame, Page, Root}
 use Rattle.watch_engine.specs.declared.held.Held.{Held}
 use Rattle.watch_engine.specs.Places.{count_gone, is_there, items_of}
 use Rattle.std.proofs.lemmas.List.Elements.{filter-append}
@@ -30,17 +29,7 @@ invariant_of-self-clause-counted c =
     let one = gone_append places c.from_live-item.result in
     omega (arith, c.args.self.now.counted)
 
-pub invariant_of-self-clause-by_page : goal.invariant_of-self-clause-by_page
-invariant_of-self-clause-by_page c =
-    keys_append Page _ _ c.args.self.now.places.items _ c.from_live-item.result
-    (ok_then c.push_keys-keyed.result _ (sym c.is_ok.ensures.value ∙ c.if-is_ok.true) c.push_keys-keyed.ensures.pages) c.args.self.now.by_page (search rules)
-
-pub invariant_of-self-clause-by_frame : goal.invariant_of-self-clause-by_frame
-invariant_of-self-clause-by_frame c =
-    keys_append Frame _ _ c.args.self.now.places.items _ c.from_live-item.result
-    (ok_then c.push_keys-keyed.result _ (sym c.is_ok.ensures.value ∙ c.if-is_ok.true) c.push_keys-keyed.ensures.frames) c.args.self.now.by_frame (search rules)
-
-pub invariant_of-self-clause-by_root : goal.invariant_of-self-clause-by_root
-invariant_of-self-clause-by_root c =
-    keys_append Root _ _ c.args.self.now.places.items _ c.from_live-item.result
-    (ok_then c.push_keys-keyed.result _ (sym c.is_ok.ensures.value ∙ c.if-is_ok.true) c.push_keys-keyed.ensures.roots) c.args.self.now.by_root (search rules)
+pub invariant_of-self-clause-indexed : goal.invariant_of-self-clause-indexed
+invariant_of-self-clause-indexed c = λ by.
+    keys_append by _ _ c.args.self.now.places.items _ c.from_live-item.result
+    (ok_then c.push-keyed.result _ (sym c.is_ok.ensures.value ∙ c.if-is_ok.true) c.push-keyed.ensures.ok by) (c.args.self.now.indexed by) (search rules)

@@ -1,0 +1,203 @@
+//! What records do to what harts may hold.
+
+ghost use Rattle.std.specs.Prelude.{◌≡◌, ◌∷◌, [], None, Some, filter, if◌then◌else◌, map};
+ghost use Rattle.watch.specs.Computed.{is_mapped};
+ghost use Rattle.watch_engine.specs.Held.{all_found_again, is_current_by, is_found, marked_if, outlives_fence, outlives_remote, settled_unless_stale, translation_of};
+ghost use Rattle.watch_engine.specs.Causes.{applies, verdict_of};
+ghost use Rattle.watch_engine.specs.declared.concern.Concern.TheVariants.{All, Given};
+ghost use Rattle.watch_engine.specs.declared.state.State.TheVariants.{Current};
+ghost use Rattle.watch_engine.specs.State.{given_of, stale_of};
+
+use crate::cause::Cause;
+use crate::concern::Concern;
+use crate::effect::Effect;
+use crate::held::Held;
+use crate::open::OpenFence;
+use crate::roots::{is_current, is_mapped};
+use crate::state::State;
+use crate::tables::Tables;
+use crate::translation_index::TranslationIndex;
+use crate::warning::Warning;
+use pte::Scheme;
+
+// Makes current what the tables of a new root have again.
+#[derive(Drop)]
+struct FindAgain<'a, T: Tables> {
+    tables: &'a T,
+    scheme: Scheme,
+    root: u64,
+}
+
+impl<T: Tables> Effect for FindAgain<'_, T> {
+    ghost does = { λ s. record {
+      change = λ i. if is_found (is_mapped s.scheme (T.words s.tables.now)) s.root i
+          then Some Current else None;
+      concerns = All ∷ [];
+    } };
+
+    fn count(&self) -> usize {
+        1
+    }
+
+    fn concern(&self, _number: usize) -> Concern {
+        Concern::All
+    }
+
+    #[inline]
+    fn apply(&mut self, item: &mut Held) {
+        if item.state.since().is_some()
+            && item.entry.global
+            && is_mapped(self.tables, self.scheme, self.root, &item.entry)
+        {
+            item.state = State::Current;
+        }
+    }
+}
+
+// With what the tables of a root have, if a hart comes to a new one.
+pub(crate) fn find_again<T: Tables>(
+    root: Option<u64>,
+    held: &mut TranslationIndex,
+    tables: &T,
+    scheme: Scheme,
+)
+    ensures { held.new
+        ≡ all_found_again (is_mapped scheme (T.words tables.now)) root
+        held.old }
+{
+    if let Some(root) = root {
+        held.apply(&mut FindAgain {
+            tables,
+            scheme,
+            root,
+        });
+    }
+}
+
+// Makes stale what the tables do not have any more, after a record that can only take from them.
+#[derive(Drop)]
+struct SettleUnlessStale<'a, T: Tables> {
+    tables: &'a T,
+    scheme: Scheme,
+    roots: &'a [u64],
+    count: u64,
+}
+
+impl<T: Tables> Effect for SettleUnlessStale<'_, T> {
+    ghost does = { λ s. record {
+      change = λ i. stale_of (is_current_by (is_mapped s.scheme (T.words s.tables.now)) s.roots.now
+          (translation_of i)) s.count i.state;
+      concerns = All ∷ [];
+    } };
+
+    fn count(&self) -> usize {
+        1
+    }
+
+    fn concern(&self, _number: usize) -> Concern {
+        Concern::All
+    }
+
+    #[inline]
+    fn apply(&mut self, item: &mut Held) {
+        if matches!(item.state, State::Current) {
+            let current = is_current(self.tables, self.scheme, self.roots, item.root, &item.entry);
+            item.state.recheck(current, self.count);
+        }
+    }
+}
+
+// With what the tables have now, if something may have been taken from that and nothing put to it.
+pub(crate) fn settle_taken<T: Tables>(
+    changed: bool,
+    held: &mut TranslationIndex,
+    tables: &T,
+    scheme: Scheme,
+    roots: &[u64],
+    count: u64,
+)
+    ensures { held.new
+        ≡ (if changed then map (λ i. settled_unless_stale (is_current_by
+        (is_mapped scheme (T.words tables.now)) roots.now (translation_of i)) count i)
+        held.old else held.old) }
+{
+    if changed {
+        held.apply(&mut SettleUnlessStale {
+            tables,
+            scheme,
+            roots,
+            count,
+        });
+    }
+}
+
+// Gives the verdict of a cause to what it is of.
+#[derive(Drop)]
+struct Marks<'a> {
+    cause: &'a Cause,
+}
+
+impl Effect for Marks<'_> {
+    ghost does = { λ m. record {
+      change = λ i. if applies m.cause.now i then given_of (verdict_of m.cause.now) i.state else None;
+      concerns = Given m.cause.now ∷ [];
+    } };
+
+    fn count(&self) -> usize {
+        1
+    }
+
+    fn concern(&self, _number: usize) -> Concern {
+        Concern::Given(*self.cause)
+    }
+
+    #[inline]
+    fn apply(&mut self, item: &mut Held) {
+        if item.is_of_cause(self.cause) {
+            item.state.give(self.cause.verdict());
+        }
+    }
+}
+
+// With the verdict of those that the cause is of, where what is given by it is known: if nothing is, all
+// keep the verdicts that they have.
+pub(crate) fn mark_given(held: &mut TranslationIndex, cause: &Cause, given: &[Warning])
+    requires { given.now ≡ [] → map (marked_if (verdict_of cause.now) (applies cause.now))
+        held.old ≡ held.old }
+    ensures { held.new
+        ≡ map (marked_if (verdict_of cause.now) (applies cause.now)) held.old }
+{
+    if !given.is_empty() {
+        held.apply(&mut Marks { cause });
+    }
+}
+
+// Without what a fence of the hart drops.
+pub(crate) fn drop_fenced(
+    held: &mut TranslationIndex,
+    scheme: Scheme,
+    hart: u8,
+    rs1: Option<u64>,
+    rs2: Option<u64>,
+)
+    ensures { held.new
+        ≡ filter (outlives_fence scheme hart rs1 rs2) held.old }
+{
+    held.drop_of(Concern::Fence {
+        scheme,
+        hart,
+        rs1,
+        rs2,
+    });
+}
+
+// Without what the end of a remote fence drops.
+pub(crate) fn drop_remote(held: &mut TranslationIndex, scheme: Scheme, fence: &Option<OpenFence>)
+    ensures { held.new
+        ≡ filter (outlives_remote scheme fence.now) held.old }
+{
+    held.drop_of(Concern::Remote {
+        scheme,
+        fence: *fence,
+    });
+}
