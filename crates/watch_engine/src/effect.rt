@@ -30,28 +30,25 @@ pub(crate) trait Effect {
         requires { number < length (does self.now).concerns }
         ensures { (c : ConcernOf) → result ≡ get_or (does self.now).concerns number c };
 
-    /// Changes an item that is there.
-    fn apply(&mut self, item: &mut Held)
+    /// Changes an item that is there. Whether its place is empty now.
+    fn apply(&mut self, item: &mut Held) -> bool
         requires { is_gone item.old.state ≡ false }
         ensures item { item.new
             ≡ with_state (or_same ((does self.old).change item.old) item.old.state) item.old }
         ensures once { is_due (does self.old).change item.new ≡ false }
+        ensures empty { result ≡ is_gone item.new.state }
         ensures same { does self.new ≡ does self.old };
 }
 
 /// Changes an item, if it is there. Whether its place is empty now.
-#[inline]
+#[inline(always)]
 pub(crate) fn apply_to<E: Effect>(effect: &mut E, item: &mut Held) -> bool
     ensures item { item.new ≡ changed (E.does effect.old).change item.old }
     ensures once { is_due (E.does effect.old).change item.new ≡ false }
     ensures same { E.does effect.new ≡ E.does effect.old }
     ensures empty { result ≡ is_gone item.new.state }
 {
-    if item.state.is_gone() {
-        return true;
-    }
-    effect.apply(item);
-    item.state.is_gone()
+    item.state.is_gone() || effect.apply(item)
 }
 
 /// What is concerned goes.
@@ -77,9 +74,11 @@ impl Effect for Drops {
     }
 
     #[inline]
-    fn apply(&mut self, item: &mut Held) {
-        if item.is_of(&self.concern) {
+    fn apply(&mut self, item: &mut Held) -> bool {
+        let goes = item.is_of(&self.concern);
+        if goes {
             item.state = State::Gone;
         }
+        goes
     }
 }

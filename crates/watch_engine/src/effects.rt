@@ -44,13 +44,14 @@ impl<T: Tables> Effect for FindAgain<'_, T> {
     }
 
     #[inline]
-    fn apply(&mut self, item: &mut Held) {
+    fn apply(&mut self, item: &mut Held) -> bool {
         if item.state.since().is_some()
             && item.entry.global
             && is_mapped(self.tables, self.scheme, self.root, &item.entry)
         {
             item.state = State::Current;
         }
+        false
     }
 }
 
@@ -99,11 +100,12 @@ impl<T: Tables> Effect for SettleUnlessStale<'_, T> {
     }
 
     #[inline]
-    fn apply(&mut self, item: &mut Held) {
+    fn apply(&mut self, item: &mut Held) -> bool {
         if matches!(item.state, State::Current) {
             let current = is_current(self.tables, self.scheme, self.roots, item.root, &item.entry);
             item.state.recheck(current, self.count);
         }
+        false
     }
 }
 
@@ -152,10 +154,11 @@ impl Effect for Marks<'_> {
     }
 
     #[inline]
-    fn apply(&mut self, item: &mut Held) {
+    fn apply(&mut self, item: &mut Held) -> bool {
         if item.is_of_cause(self.cause) {
             item.state.give(self.cause.verdict());
         }
+        false
     }
 }
 

@@ -58,6 +58,20 @@ fn asks(page: &Page, index: u16) -> bool
     va.vpn(0) == index || va.vpn(1) == index || va.vpn(2) == index || va.vpn(3) == index
 }
 
+// A call, so that a scan of the list is a short loop over the pages that do not ask for the word.
+#[inline(never)]
+fn is_touched_on_any(scheme: Scheme, roots: &Roots, address: u64, ways: &[Way], item: &Held) -> bool
+    ensures { result ≡ is_touched scheme roots.now (index_of address) ways.now
+        (translation_of item.now) }
+{
+    for way in ways {
+        if is_touched_on(scheme, roots, address, way, item) {
+            return true;
+        }
+    }
+    false
+}
+
 // Few pages ask for the word at the index of the address, and of the others nothing more is read.
 #[inline(always)]
 fn is_touched(scheme: Scheme, roots: &Roots, address: u64, ways: &[Way], item: &Held) -> bool
@@ -67,12 +81,7 @@ fn is_touched(scheme: Scheme, roots: &Roots, address: u64, ways: &[Way], item: &
     if !asks(&item.entry.page, index_of(address)) {
         return false;
     }
-    for way in ways {
-        if is_touched_on(scheme, roots, address, way, item) {
-            return true;
-        }
-    }
-    false
+    is_touched_on_any(scheme, roots, address, ways, item)
 }
 
 /// What a store makes of what lies below the word: with what the tables have then it is current or
@@ -113,14 +122,14 @@ impl<T: Tables> Effect for SettleTouched<'_, T> {
     }
 
     #[inline(always)]
-    fn apply(&mut self, item: &mut Held) {
+    fn apply(&mut self, item: &mut Held) -> bool {
         if !is_touched(self.scheme, self.roots, self.address, self.ways, item) {
-            return;
+            return false;
         }
         let space = satp_in(self.satps, item.hart);
         if is_live_in(self.tables, self.scheme, space, item.root, &item.entry) {
             item.state = State::Gone;
-            return;
+            return true;
         }
         let current = is_current_again(
             self.tables,
@@ -131,6 +140,7 @@ impl<T: Tables> Effect for SettleTouched<'_, T> {
             &item.entry,
         );
         item.state.recheck(current, self.count);
+        false
     }
 }
 
