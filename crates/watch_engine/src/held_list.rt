@@ -334,6 +334,9 @@ impl HeldList {
             ≡ all_changed (E.does effect.old).change (items_of self.old.places.items) }
         ensures few { AreFewGone self.new.places.items }
     {
+        if self.places.is_empty() {
+            return;
+        }
         let mut steps = self.chain_steps();
         let empty = apply_to_all(
             self.places.as_mut_slice(),
