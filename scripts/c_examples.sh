@@ -1,7 +1,7 @@
 #!/bin/bash
 # The C interface, and the kernel's side of a trace: builds the static library, builds the C programs of crates/melissaledge_c/examples over it with all warnings as errors, runs
 # them, and compares what they print with what they must print: NAME.out there. examples/watch/trace_test.c has to print left-out-hart.trace, over
-# a ring and over a character output. The emulator rv64 has to run the kernel of examples/watch, with its traces, and rv64_guest.
+# a ring and over a character output, and scripts/notes.py to name the calls that made a trace. The emulator rv64 has to run the kernel of examples/watch, with its traces, and rv64_guest.
 #
 #     scripts/c_examples.sh
 #
@@ -53,6 +53,54 @@ judge_trace() {
         failed=$((failed + 1))
     else
         passed=$((passed + 1))
+    fi
+}
+
+# Whether scripts/notes.py names the calls of a program that are in its trace: those of headers by who calls them.
+judge_notes() {
+    if ! command -v "${ADDR2LINE:-addr2line}" >/dev/null; then
+        echo 'skipped: scripts/notes.py, since there is no addr2line'
+        return
+    fi
+    mkdir "$own/include"
+    cp "$top/examples/watch/trace.h" "$own/include"
+    cat >"$own/include/clear.h" <<'END'
+static inline __attribute__((always_inline)) void clear(uint64_t address)
+{
+    trace_store(0, address, 0);
+}
+END
+    cat >"$own/notes.c" <<'END'
+#include <stdio.h>
+#define TRACE_PUTCHAR(c) putchar(c)
+#include "include/trace.h"
+#include "include/clear.h"
+static __attribute__((noinline)) void unmap(uint64_t address)
+{
+    clear(address);
+    trace_fence(0, TRACE_ALL, TRACE_ALL);
+}
+int main(void)
+{
+    trace_open("1", "sv39");
+    unmap(0x80002008);
+    printf("f 0 - - @1\n# no record @%lx\n", (unsigned long)main);
+    return 0;
+}
+END
+    cat >"$own/notes.wanted" <<'END'
+watch 1 1 sv39
+w 0 80002008 0 @unmap notes.c:7
+f 0 - - @unmap notes.c:8
+f 0 - - @1
+END
+    if ${CC:-cc} -g -O2 -no-pie -std=gnu11 "$own/notes.c" -o "$own/notes" && "$own/notes" >"$own/notes.trace" &&
+        "$top/scripts/notes.py" "$own/notes" "$own/notes.trace" | grep -v '^# no record @[0-9a-f]*$' | cmp - "$own/notes.wanted" &&
+        ! "$top/scripts/notes.py" "$own/notes.c" "$own/notes.trace" 2>/dev/null; then
+        passed=$((passed + 1))
+    else
+        echo 'FAILED notes.py: other names'
+        failed=$((failed + 1))
     fi
 }
 
@@ -142,6 +190,7 @@ judge_emulator() {
 
 judge_trace _output
 judge_trace _ring -DTRACE_RING=100
+judge_notes
 judge access_path
 judge superpage_shootdown
 judge tlb_of_1024
