@@ -96,8 +96,8 @@ module _ (change : Held → Option State) where
   items_after [] = refl
   items_after (i ∷ places) = there_first i (is_gone i.state) (map (changed change) places) (items_of places) refl (items_after places)
 
--- what goes is left out
-drop_same : (b : Bool) (s : State) → cond (is_gone s) s (or_same (cond b (Some Gone) None) s) ≡ cond b Gone s
+-- what does not stay is left out
+drop_same : (stays : Bool) (s : State) → cond (is_gone s) s (or_same (cond stays None (Some Gone)) s) ≡ cond (not stays) Gone s
 drop_same true Current = refl
 drop_same true (Stale given since) = refl
 drop_same true Gone = refl
@@ -105,9 +105,9 @@ drop_same false Current = refl
 drop_same false (Stale given since) = refl
 drop_same false Gone = refl
 
-pub dropped : (goes : Held → Bool) (held : List Held) → AreThere held → all_changed (λ i. cond (goes i) (Some Gone) None) held ≡ filter (λ i. not (goes i)) held
-dropped goes held there =
-    (λ j. items_of (map (λ i. with_state (drop_same (goes i) i.state j) i) held)) ∙ (items_left goes held ∙ ap (filter (λ i. not (goes i))) there)
+pub dropped : (stays : Held → Bool) (held : List Held) → AreThere held → all_changed (λ i. cond (stays i) None (Some Gone)) held ≡ filter stays held
+dropped stays held there =
+    (λ j. items_of (map (λ i. with_state (drop_same (stays i) i.state j) i) held)) ∙ (items_left stays held ∙ ap (filter stays) there)
 
 -- where none goes, each is changed
 pub each_changed : (change : Held → Option State) (after : Held → State) → ((i : Held) → (changed change i).state ≡ after i) → ((i : Held) → is_gone (after i) ≡ is_gone i.state)

@@ -47,8 +47,14 @@ items_turned after goes (i ∷ places) stay = items_first after goes i (is_gone 
 pub items_changed : (after : Held → State) → (places : List Held) → Each (λ i. is_gone (after i) ≡ is_gone i.state) places → items_of (map (λ i. with_state (after i) i) places) ≡ map (λ i. with_state (after i) i) (items_of places)
 items_changed after places stay = items_turned after (λ i. false) places stay ∙ ap (map (λ i. with_state (after i) i)) (filter_same (items_of places))
 
-pub items_left : (goes : Held → Bool) (places : List Held) → items_of (map (turned (λ i. i.state) goes) places) ≡ filter (λ i. not (goes i)) (items_of places)
-items_left goes places = items_turned (λ i. i.state) goes places (each_of (λ i. is_gone i.state ≡ is_gone i.state) (λ i. refl) places) ∙ map_same (filter (λ i. not (goes i)) (items_of places))
+not_not : (b : Bool) → not (not b) ≡ b
+not_not true = refl
+not_not false = refl
+
+pub items_left : (stays : Held → Bool) (places : List Held) → items_of (map (turned (λ i. i.state) (λ i. not (stays i))) places) ≡ filter stays (items_of places)
+items_left stays places =
+    items_turned (λ i. i.state) (λ i. not (stays i)) places (each_of (λ i. is_gone i.state ≡ is_gone i.state) (λ i. refl) places)
+    ∙ (map_same (filter (λ i. not (not (stays i))) (items_of places)) ∙ (λ j. filter (λ i. not_not (stays i) j) (items_of places)))
 
 -- an empty place at the end has no item
 pub items_before : (places : List Held) (n : ℕ) (d : Held) → n < length places → is_gone (get_or places n d).state ≡ true → items_of (take (suc n) places) ≡ items_of (take n places)

@@ -16,7 +16,7 @@ use crate::cause::Cause;
 use crate::held::Held;
 use crate::keys::{By, FRAME_LIMIT, Keys, MEGAPAGE_PAGES, PAGE_LIMIT};
 use crate::open::{OpenClaim, OpenFence};
-use crate::touched::{index_of, is_below};
+use crate::touched::index_of;
 use pte::{PAGE_BYTES, Scheme, TABLE_LENGTH};
 use watch::{AddressRange, Frames};
 use watch_tables::Way;
@@ -175,8 +175,8 @@ fn keys_of_claim(claim: &Option<OpenClaim>) -> Option<Keys>
     }
 }
 
-// The keys of what a cause is of.
-fn keys_of_cause(cause: &Cause) -> Option<Keys>
+/// The keys of what a cause is of; `None` where they are too many.
+pub(crate) fn keys_of_cause(cause: &Cause) -> Option<Keys>
     ensures all { (keys : KeysOf) → result ≡ Some keys → (i : HeldOf)
         → applies cause.now i ≡ true → IsAmong keys (key_of keys.by i) }
     ensures small { (keys : KeysOf) → result ≡ Some keys → AreSmall keys }
@@ -231,32 +231,6 @@ impl Concern {
                 ..
             } => keys_of_store(*address, way, *is_root),
             Concern::All => None,
-        }
-    }
-
-    /// Whether the record concerns the item.
-    pub(crate) fn is_of(&self, item: &Held) -> bool
-        ensures { result ≡ concerns self.now item.now }
-    {
-        match self {
-            Concern::Fence {
-                scheme,
-                hart,
-                rs1,
-                rs2,
-            } => !item.outlives_fence(*scheme, *hart, *rs1, *rs2),
-            Concern::Remote { scheme, fence } => !item.outlives_remote(*scheme, fence),
-            Concern::Given(cause) => item.is_of_cause(cause),
-            Concern::Store {
-                scheme,
-                address,
-                way,
-                is_root,
-            } => {
-                is_below(*scheme, *address, &item.entry.page, way)
-                    && (way.root == item.root || item.entry.global && *is_root)
-            }
-            Concern::All => true,
         }
     }
 }

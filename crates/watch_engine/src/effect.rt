@@ -5,14 +5,12 @@ ghost use Rattle.std.specs.List.{list_any};
 ghost use Rattle.watch_engine.specs.Concerns.{concerns};
 ghost use Rattle.watch_engine.specs.declared.concern.Concern.{Concern as ConcernOf};
 ghost use Rattle.watch_engine.specs.declared.held.Held.{Held as HeldOf};
-ghost use Rattle.watch_engine.specs.declared.state.State.TheVariants.{Gone};
 ghost use Rattle.watch_engine.specs.Effects.{Does, changed, is_due, or_same};
 ghost use Rattle.watch_engine.specs.Held.{with_state};
 ghost use Rattle.watch_engine.specs.State.{is_gone};
 
 use crate::concern::Concern;
 use crate::held::Held;
-use crate::state::State;
 
 /// What a record does to the items that it concerns. What it has done to one it does not do again.
 pub(crate) trait Effect {
@@ -49,36 +47,4 @@ pub(crate) fn apply_to<E: Effect>(effect: &mut E, item: &mut Held) -> bool
     ensures empty { result ≡ is_gone item.new.state }
 {
     item.state.is_gone() || effect.apply(item)
-}
-
-/// What is concerned goes.
-#[derive(Drop)]
-pub(crate) struct Drops {
-    pub(crate) concern: Concern,
-}
-
-impl Effect for Drops {
-    ghost use Rattle.std.specs.Prelude.{None, Some, [], ◌∷◌, if◌then◌else◌};
-
-    ghost does = { λ d. record {
-      change = λ i. if concerns d.concern i then Some Gone else None;
-      concerns = d.concern ∷ [];
-    } };
-
-    fn count(&self) -> usize {
-        1
-    }
-
-    fn concern(&self, _number: usize) -> Concern {
-        self.concern
-    }
-
-    #[inline]
-    fn apply(&mut self, item: &mut Held) -> bool {
-        let goes = item.is_of(&self.concern);
-        if goes {
-            item.state = State::Gone;
-        }
-        goes
-    }
 }

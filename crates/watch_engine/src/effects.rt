@@ -4,8 +4,8 @@ ghost use Rattle.std.specs.Prelude.{◌≡◌, ◌∷◌, [], None, Some, filter
 ghost use Rattle.watch.specs.Computed.{is_mapped};
 ghost use Rattle.watch_engine.specs.Held.{all_found_again, is_current_by, is_found, marked_if, outlives_fence, outlives_remote, settled_unless_stale, translation_of};
 ghost use Rattle.watch_engine.specs.Causes.{applies, verdict_of};
-ghost use Rattle.watch_engine.specs.declared.concern.Concern.TheVariants.{All, Given};
-ghost use Rattle.watch_engine.specs.declared.state.State.TheVariants.{Current};
+ghost use Rattle.watch_engine.specs.declared.concern.Concern.TheVariants.{All, Fence, Given, Remote};
+ghost use Rattle.watch_engine.specs.declared.state.State.TheVariants.{Current, Gone};
 ghost use Rattle.watch_engine.specs.State.{given_of, stale_of};
 
 use crate::cause::Cause;
@@ -175,6 +175,44 @@ pub(crate) fn mark_given(held: &mut TranslationIndex, cause: &Cause, given: &[Wa
     }
 }
 
+// Drops what a fence of the hart drops.
+#[derive(Drop)]
+struct FenceDrops {
+    scheme: Scheme,
+    hart: u8,
+    rs1: Option<u64>,
+    rs2: Option<u64>,
+}
+
+impl Effect for FenceDrops {
+    ghost does = { λ f. record {
+      change = λ i. if outlives_fence f.scheme f.hart f.rs1 f.rs2 i then None else Some Gone;
+      concerns = Fence f.scheme f.hart f.rs1 f.rs2 ∷ [];
+    } };
+
+    fn count(&self) -> usize {
+        1
+    }
+
+    fn concern(&self, _number: usize) -> Concern {
+        Concern::Fence {
+            scheme: self.scheme,
+            hart: self.hart,
+            rs1: self.rs1,
+            rs2: self.rs2,
+        }
+    }
+
+    #[inline]
+    fn apply(&mut self, item: &mut Held) -> bool {
+        if item.outlives_fence(self.scheme, self.hart, self.rs1, self.rs2) {
+            return false;
+        }
+        item.state = State::Gone;
+        true
+    }
+}
+
 // Without what a fence of the hart drops.
 pub(crate) fn drop_fenced(
     held: &mut TranslationIndex,
@@ -186,7 +224,7 @@ pub(crate) fn drop_fenced(
     ensures { held.new
         ≡ filter (outlives_fence scheme hart rs1 rs2) held.old }
 {
-    held.drop_of(Concern::Fence {
+    held.apply(&mut FenceDrops {
         scheme,
         hart,
         rs1,
@@ -194,13 +232,44 @@ pub(crate) fn drop_fenced(
     });
 }
 
+// Drops what the end of a remote fence drops.
+#[derive(Drop)]
+struct RemoteDrops<'a> {
+    scheme: Scheme,
+    fence: &'a Option<OpenFence>,
+}
+
+impl Effect for RemoteDrops<'_> {
+    ghost does = { λ r. record {
+      change = λ i. if outlives_remote r.scheme r.fence.now i then None else Some Gone;
+      concerns = Remote r.scheme r.fence.now ∷ [];
+    } };
+
+    fn count(&self) -> usize {
+        1
+    }
+
+    fn concern(&self, _number: usize) -> Concern {
+        Concern::Remote {
+            scheme: self.scheme,
+            fence: *self.fence,
+        }
+    }
+
+    #[inline]
+    fn apply(&mut self, item: &mut Held) -> bool {
+        if item.outlives_remote(self.scheme, self.fence) {
+            return false;
+        }
+        item.state = State::Gone;
+        true
+    }
+}
+
 // Without what the end of a remote fence drops.
 pub(crate) fn drop_remote(held: &mut TranslationIndex, scheme: Scheme, fence: &Option<OpenFence>)
     ensures { held.new
         ≡ filter (outlives_remote scheme fence.now) held.old }
 {
-    held.drop_of(Concern::Remote {
-        scheme,
-        fence: *fence,
-    });
+    held.apply(&mut RemoteDrops { scheme, fence });
 }

@@ -3,7 +3,7 @@
 ghost use Rattle.std.specs.Prelude.{List, ◌≡◌, ◌+◌, ◌≤◌, ◌&&◌, ◌==◌, ◌++◌, ◌∷◌, [], OnErr, OnOk, false, length, map, take, true};
 ghost use Rattle.std.specs.Option.{ForSome};
 ghost use Rattle.std.specs.List.{list_any};
-ghost use Rattle.watch_engine.specs.Concerns.{concerns};
+ghost use Rattle.watch_engine.specs.Causes.{applies};
 ghost use Rattle.watch_engine.specs.declared.held.Held.{Held as HeldOf};
 ghost use Rattle.watch_engine.specs.Effects.{IsPartly, all_changed, changed, is_due};
 ghost use Rattle.watch_engine.specs.Held.{held_from, is_of, last_translation, remembered};
@@ -11,7 +11,8 @@ ghost use Rattle.watch_engine.specs.Indexes.{AreIndexes};
 ghost use Rattle.watch_engine.specs.Keys.{AreSmall, IsAmong, key_of};
 ghost use Rattle.watch_engine.specs.Places.{AreFewGone, count_gone, has, items_of, place_in};
 
-use crate::concern::Concern;
+use crate::cause::Cause;
+use crate::concern::keys_of_cause;
 use crate::effect::Effect;
 use crate::held::{Held, LastLive};
 use crate::indexes::Indexes;
@@ -167,9 +168,9 @@ impl HeldList {
         FEW_STEPS + self.places.len() / CHAIN_SHARE
     }
 
-    // Whether the record may concern an item that has the key: so where the steps are used up.
-    fn may_concern_with(&self, by: By, key: u64, concern: &Concern, steps: &mut usize) -> bool
-        ensures { result ≡ false → list_any (λ i. (key_of by i == key) && has (concerns concern.now) i)
+    // Whether the cause may be of an item that has the key: so where the steps are used up.
+    fn may_concern_with(&self, by: By, key: u64, cause: &Cause, steps: &mut usize) -> bool
+        ensures { result ≡ false → list_any (λ i. (key_of by i == key) && applies cause.now i)
             self.now.places.items ≡ false }
     {
         let chains = self.indexes.by(by);
@@ -178,7 +179,7 @@ impl HeldList {
             return true;
         };
         while at > 0 {
-            if places[at - 1].is_of(concern) {
+            if places[at - 1].is_of_cause(cause) {
                 return true;
             }
             let Some(older) = chains.before(at, steps) else {
@@ -190,33 +191,33 @@ impl HeldList {
     }
 
     // The same of items that have one of the keys.
-    fn may_concern_among(&self, keys: &Keys, concern: &Concern, steps: &mut usize) -> bool
+    fn may_concern_among(&self, keys: &Keys, cause: &Cause, steps: &mut usize) -> bool
         requires { AreSmall keys.now }
-        ensures { result ≡ false → ((i : HeldOf) → concerns concern.now i ≡ true
+        ensures { result ≡ false → ((i : HeldOf) → applies cause.now i ≡ true
             → IsAmong keys.now (key_of keys.now.by i))
-            → list_any (has (concerns concern.now)) self.now.places.items ≡ false }
+            → list_any (applies cause.now) self.now.places.items ≡ false }
     {
-        if self.may_concern_with(keys.by, keys.limit, concern, steps) {
+        if self.may_concern_with(keys.by, keys.limit, cause, steps) {
             return true;
         }
         for offset in 0..keys.len() {
-            if self.may_concern_with(keys.by, keys.key(offset), concern, steps) {
+            if self.may_concern_with(keys.by, keys.key(offset), cause, steps) {
                 return true;
             }
         }
         false
     }
 
-    /// Whether the record may concern some item: it does not where the answer is `false`.
-    pub(crate) fn may_concern(&self, concern: &Concern) -> bool
+    /// Whether the cause may be of some item: it is not where the answer is `false`.
+    pub(crate) fn may_concern(&self, cause: &Cause) -> bool
         ensures { result ≡ false
-            → list_any (concerns concern.now) (items_of self.now.places.items) ≡ false }
+            → list_any (applies cause.now) (items_of self.now.places.items) ≡ false }
     {
-        let Some(keys) = concern.keys() else {
+        let Some(keys) = keys_of_cause(cause) else {
             return true;
         };
         let mut steps = self.chain_steps();
-        self.may_concern_among(&keys, concern, &mut steps)
+        self.may_concern_among(&keys, cause, &mut steps)
     }
 
     // The place of a translation. By turns from the front of the list and along the chain of its page.

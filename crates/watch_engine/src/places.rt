@@ -3,27 +3,15 @@
 ghost use Rattle.std.specs.Prelude.{ℕ, Bool, ◌≡◌, ◌+◌, ◌≤◌, ◌&&◌, ◌==◌, false, length, map, take, true};
 ghost use Rattle.std.specs.Option.{ForSome};
 ghost use Rattle.std.specs.List.{list_any};
-ghost use Rattle.watch_engine.specs.Concerns.{concerns};
 ghost use Rattle.watch_engine.specs.declared.held.Held.{Held as HeldOf};
 ghost use Rattle.watch_engine.specs.Effects.{IsPartly, changed, is_due};
 ghost use Rattle.watch_engine.specs.Keys.{AreSmall, IsAmong, key_of};
-ghost use Rattle.watch_engine.specs.Places.{count_gone, has, items_of};
+ghost use Rattle.watch_engine.specs.Places.{count_gone, items_of};
 
 use crate::chains::Chains;
-use crate::concern::Concern;
 use crate::effect::{Effect, apply_to};
 use crate::held::Held;
 use crate::keys::{By, Keys};
-
-impl Held {
-    /// Whether it is there, and the record concerns it.
-    #[inline]
-    pub(crate) fn is_of(&self, concern: &Concern) -> bool
-        ensures { result ≡ has (concerns concern.now) self.now }
-    {
-        !self.state.is_gone() && concern.is_of(self)
-    }
-}
 
 // Applies the effect to the items with the key. How many places of their chain are empty then: no others
 // are looked at. `None` once the steps are used up, and then some may still be as they were.

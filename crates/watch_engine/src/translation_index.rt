@@ -1,14 +1,14 @@
 //! What harts may hold.
 
-ghost use Rattle.std.specs.Prelude.{◌≡◌, ◌++◌, ◌∷◌, [], OnErr, OnOk, false, filter, not};
+ghost use Rattle.std.specs.Prelude.{◌≡◌, ◌++◌, ◌∷◌, [], OnErr, OnOk, false};
 ghost use Rattle.std.specs.List.{list_any};
-ghost use Rattle.watch_engine.specs.Concerns.{concerns};
+ghost use Rattle.watch_engine.specs.Causes.{applies};
 ghost use Rattle.watch_engine.specs.Effects.{AreThere, all_changed};
 ghost use Rattle.watch_engine.specs.Held.{held_from, remembered};
 ghost use Rattle.watch_engine.specs.PageRuns.{AreHartsOf};
 
-use crate::concern::Concern;
-use crate::effect::{Drops, Effect};
+use crate::cause::Cause;
+use crate::effect::Effect;
 use crate::held::LastLive;
 use crate::held_list::{HeldList, Items};
 use crate::shared::HARTS;
@@ -49,11 +49,11 @@ impl TranslationIndex {
         self.list.iter()
     }
 
-    /// Whether the record may concern some item: it does not where the answer is `false`.
-    pub(crate) fn may_concern(&self, concern: &Concern) -> bool
-        ensures { result ≡ false → list_any (concerns concern.now) self.now ≡ false }
+    /// Whether the cause may be of some item: it is not where the answer is `false`.
+    pub(crate) fn may_concern(&self, cause: &Cause) -> bool
+        ensures { result ≡ false → list_any (applies cause.now) self.now ≡ false }
     {
-        self.list.may_concern(concern)
+        self.list.may_concern(cause)
     }
 
     /// The harts of the items of a page: all of them where it is dear to look.
@@ -85,12 +85,5 @@ impl TranslationIndex {
         ensures there { AreThere self.old }
     {
         self.list.apply(effect);
-    }
-
-    /// Without the items that the record concerns.
-    pub(crate) fn drop_of(&mut self, concern: Concern)
-        ensures { self.new ≡ filter (λ i. not (concerns concern i)) self.old }
-    {
-        self.apply(&mut Drops { concern });
     }
 }

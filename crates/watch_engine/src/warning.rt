@@ -5,7 +5,6 @@ ghost use Rattle.watch_engine.specs.Warnings.{has_same_rights, is_line, is_same_
 ghost use Rattle.std.specs.List.{list_any};
 
 use crate::cause::Cause;
-use crate::concern::Concern;
 use crate::held::Held;
 use crate::translation_index::TranslationIndex;
 use pte::PteFlags;
@@ -126,7 +125,7 @@ pub(crate) fn warnings(
 ) -> Result<Vec<Warning>, AllocError>
     ensures { IfOk result (λ warnings. warnings.items ≡ joined cause.now held.now []) }
 {
-    if !held.may_concern(&Concern::Given(*cause)) {
+    if !held.may_concern(cause) {
         return Ok(Vec::new(alloc));
     }
     all_warnings(alloc, held, cause)
