@@ -282,8 +282,9 @@ impl<T: Tables> Watch<T> {
         mark_given(&mut self.held, &cause, given.as_slice());
         self.kept_ways.keep_unless_any(addresses.as_slice());
         self.tables.clear(frames);
-        let keeps = self.roots.drop_given(frames, self.satps.spaces());
-        self.left.drop_rootless(keeps, &self.roots);
+        let keeps = self
+            .left
+            .drop_given(&mut self.roots, frames, self.satps.spaces());
         self.count += 1;
         settle_taken(
             may_differ(addresses.as_slice(), keeps),

@@ -1,16 +1,17 @@
 //! The spaces that harts have left.
 
 ghost use Rattle.std.specs.Prelude.{ℕ, ◌≡◌, ◌==◌, ◌≤◌, ◌<◌, ◌++◌, [], IfOk, IsTrue, None, OnErr, OnOk, Some, drop, false, filter, get_or, if◌then◌else◌, length, take, vec_capacity, vec_len};
+ghost use Rattle.std.specs.List.{list_all};
 ghost use Rattle.watch_engine.specs.declared.left.Left.{Left as LeftOf};
 ghost use Rattle.watch_engine.specs.LeftOrder.{AreByRoot, Begins, Ends};
-ghost use Rattle.watch_engine.specs.Held.{AreEntered, IsWith};
+ghost use Rattle.watch_engine.specs.Held.{AreEntered, IsWith, stays, without_frames};
 ghost use Rattle.watch_engine.specs.Left.{added, has_its_root, is_of, is_of_other, is_other, with_left};
 
 use crate::left::Left;
 use crate::roots::Roots;
 use std::alloc::{AllocError, Global};
 use std::marker::Model;
-use watch::Space;
+use watch::{Frames, Space};
 
 // How many of them have a root below this one.
 fn count_below(left: &[Left], root: u64) -> usize
@@ -313,13 +314,24 @@ impl LeftSpaces {
         self.spaces.truncate(kept);
     }
 
-    /// Without spaces whose root is none of these, if a root is none any more.
-    pub(crate) fn drop_rootless(&mut self, keeps: bool, roots: &Roots)
-        ensures { self.new ≡ (if keeps then self.old
-            else filter (has_its_root roots.now) self.old) }
+    /// Takes frames that are given out from the roots, but for those in a satp, and drops the spaces of
+    /// those roots; and whether all roots stay.
+    pub(crate) fn drop_given(
+        &mut self,
+        roots: &mut Roots,
+        frames: Frames,
+        satps: &[Option<Space>],
+    ) -> bool
+        ensures roots { roots.new ≡ without_frames frames satps.now roots.old }
+        ensures all { result ≡ list_all (stays frames satps.now) roots.old }
+        ensures left { self.new ≡ (if result then self.old
+            else filter (has_its_root roots.new) self.old) }
     {
-        if !keeps {
-            self.retain_rooted(roots);
+        if roots.keeps_all(frames, satps) {
+            return true;
         }
+        roots.retain(frames, satps);
+        self.retain_rooted(roots);
+        false
     }
 }

@@ -181,30 +181,19 @@ impl Roots {
         Ok(Some(space.root))
     }
 
-    // Whether all stay where frames are given out.
-    fn keeps_all(&self, frames: Frames, satps: &[Option<Space>]) -> bool
+    /// Whether all stay where frames are given out.
+    pub(crate) fn keeps_all(&self, frames: Frames, satps: &[Option<Space>]) -> bool
         ensures { result ≡ list_all (stays frames satps.now) self.now }
     {
         let place = count_below(self.ppns.as_slice(), frames.first);
         keeps_from(self.ppns.as_slice(), place, frames, satps)
     }
 
-    fn retain(&mut self, frames: Frames, satps: &[Option<Space>])
+    /// Without frames that are given out, but for those in a satp.
+    pub(crate) fn retain(&mut self, frames: Frames, satps: &[Option<Space>])
         ensures { self.new ≡ without_frames frames satps.now self.old }
     {
         self.ppns.retain(|root| stays(*root, frames, satps));
-    }
-
-    /// Without frames that are given out, but for those in a satp; and whether all stay.
-    pub(crate) fn drop_given(&mut self, frames: Frames, satps: &[Option<Space>]) -> bool
-        ensures roots { self.new ≡ without_frames frames satps.now self.old }
-        ensures all { result ≡ list_all (stays frames satps.now) self.old }
-    {
-        let all = self.keeps_all(frames, satps);
-        if !all {
-            self.retain(frames, satps);
-        }
-        all
     }
 }
 

@@ -64,7 +64,7 @@ returns-clause-ok g c = λ hart trace at.
     let held : List Held = watch.held in
     let frames = c.args.frames in
     let new : Tables = g.T.Tables.words c.clear.new.self in
-    let these : List ℕ = c.drop_given-keeps.new.self in
+    let these : List ℕ = c.drop_given-keeps.new.roots in
     let these_are : these ≡ without_frames frames watch.satps.spaces.items watch.roots = c.drop_given-keeps.ensures.roots ∙ (λ j. without_frames frames (c.spaces-2.ensures.value j) watch.roots) in
     let keeps : Bool = c.drop_given-keeps.result in
     let keeps_is : keeps ≡ list_all (root_stays frames watch.satps.spaces.items) watch.roots = c.drop_given-keeps.ensures.all ∙ (λ j. list_all (root_stays frames (c.spaces-2.ensures.value j)) watch.roots) in
@@ -73,7 +73,7 @@ returns-clause-ok g c = λ hart trace at.
     let marks : c.mark_given.new.held ≡ map mark (remembered_all seen held) = c.mark_given.ensures ∙ ap (map mark) c.in_ok-remember_all.ensures.ok in
     let changed : Bool = c.may_differ.result in
     subst (λ (ls : List Left). Stands scheme (records.GiveOut hart frames ∷ trace) new (g.T.Tables.since c.clear.new.self) watch.satps.spaces.items these c.settle_taken.new.held ls drops watch.fences.items watch.claims.items (watch.count + 1))
-    (sym (c.drop_rootless.ensures ∙ all_rooted at frames these these_are keeps keeps_is))
+    (sym (c.drop_given-keeps.ensures.left ∙ all_rooted at frames these these_are keeps keeps_is))
     (frames_stand at hart frames new (g.T.Tables.since c.clear.new.self) (c.clear.ensures.words hart) c.clear.ensures.others addresses c.in_ok-addresses.ensures these these_are changed
     (λ same. (sym c.as_slice-5.ensures.value ∙ c.may_differ.ensures.words same, sym keeps_is ∙ c.may_differ.ensures.roots same)) seen all _
     (c.settle_taken.ensures ∙ (λ j. cond changed (map (settle (c.as_slice-6.ensures j)) (marks j)) (marks j))))
