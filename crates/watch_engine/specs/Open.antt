@@ -5,15 +5,17 @@ use Rattle.watch.specs.Trace.{Trace, begins_claim, begins_fence, claim_of, fence
 use Rattle.watch_engine.specs.declared.open.OpenFence.{OpenFence}
 use Rattle.watch_engine.specs.declared.open.OpenClaim.{OpenClaim}
 
+-- the newest under a token, by what has which token, or else what was found before
+abbrev pub newest : {B : Type 0} → (B → ℕ) → ℕ → Option B → List B → Option B
+newest token_of token found [] = found
+newest token_of token found (o ∷ begun) =
+    newest token_of token (if token_of o == token then Some o else found) begun
+
 abbrev pub newest_fence : ℕ → Option OpenFence → List OpenFence → Option OpenFence
-newest_fence token found [] = found
-newest_fence token found (o ∷ fences) =
-    newest_fence token (if o.token == token then Some o else found) fences
+newest_fence = newest (λ (o : OpenFence). o.token)
 
 abbrev pub newest_claim : ℕ → Option OpenClaim → List OpenClaim → Option OpenClaim
-newest_claim token found [] = found
-newest_claim token found (o ∷ claims) =
-    newest_claim token (if o.token == token then Some o else found) claims
+newest_claim = newest (λ (o : OpenClaim). o.token)
 
 -- the number of records up to the newest begin under a token
 abbrev pub fence_begun : ℕ → Trace → ℕ
@@ -39,8 +41,11 @@ IsOpenClaim trace token None = claim_of trace token ≡ None
 IsOpenClaim trace token (Some o) =
     (claim_of trace token ≡ Some o.claim) × (o.begun ≡ claim_begun token trace)
 
+abbrev pub is_not_of : {B : Type 0} → (B → ℕ) → ℕ → B → Bool
+is_not_of token_of token o = not (token_of o == token)
+
 abbrev pub is_not_fence_of : ℕ → OpenFence → Bool
-is_not_fence_of token o = not (o.token == token)
+is_not_fence_of = is_not_of (λ (o : OpenFence). o.token)
 
 abbrev pub is_not_claim_of : ℕ → OpenClaim → Bool
-is_not_claim_of token o = not (o.token == token)
+is_not_claim_of = is_not_of (λ (o : OpenClaim). o.token)

@@ -12,7 +12,7 @@ use crate::effects::{drop_fenced, drop_remote, find_again, mark_given, settle_ta
 use crate::kept_ways::KeptWays;
 use crate::left::{add_ended, add_fence};
 use crate::left_spaces::LeftSpaces;
-use crate::open::{OpenClaim, OpenFence, end_claim, end_fence, newest_claim, newest_fence};
+use crate::open::{OpenClaim, OpenFence, end_all, newest};
 use crate::page_runs::remember_all;
 use crate::past_fences::PastFences;
 use crate::roots::Roots;
@@ -221,10 +221,10 @@ impl<T: Tables> Watch<T> {
             → OnErr result (Follows T.words T.since trace self.new) }
         ensures stays { OnErr result (KeepsAll T.words T.since self.old self.new) }
     {
-        let fence = newest_fence(self.fences.as_slice(), token);
+        let fence = newest(self.fences.as_slice(), token);
         add_ended(&self.left, &mut self.drops, &fence)?;
         drop_remote(&mut self.held, self.scheme, &fence);
-        end_fence(&mut self.fences, token);
+        end_all(&mut self.fences, token);
         self.count += 1;
         Ok(())
     }
@@ -330,11 +330,11 @@ impl<T: Tables> Watch<T> {
             → OnErr result (Follows T.words T.since trace self.new) }
         ensures stays { OnErr result (KeepsAll T.words T.since self.old self.new) }
     {
-        let claim = newest_claim(self.claims.as_slice(), token);
+        let claim = newest(self.claims.as_slice(), token);
         let cause = Cause::Claim(claim);
         let given = warnings(self.alloc, &self.held, &cause)?;
         mark_given(&mut self.held, &cause, given.as_slice());
-        end_claim(&mut self.claims, token);
+        end_all(&mut self.claims, token);
         self.count += 1;
         Ok(given)
     }
@@ -369,7 +369,7 @@ impl<T: Tables> Watch<T> {
         ensures { (trace : Trace) → Follows T.words T.since trace self.now
             → result ≡ option_map (λ _. claim_begun token trace) (claim_of trace token) }
     {
-        match newest_claim(self.claims.as_slice(), token) {
+        match newest(self.claims.as_slice(), token) {
             None => None,
             Some(claim) => Some(claim.begun),
         }

@@ -1,7 +1,7 @@
 //! Remote fences and claims that have begun and not ended.
 
-ghost use Rattle.std.specs.Prelude.{◌≡◌, None, filter};
-ghost use Rattle.watch_engine.specs.Open.{is_not_claim_of, is_not_fence_of, newest_claim, newest_fence};
+ghost use Rattle.std.specs.Prelude.{ℕ, ◌≡◌, None, filter};
+ghost use Rattle.watch_engine.specs.Open.{is_not_of, newest};
 
 use watch::{Claim, RemoteFence};
 
@@ -23,42 +23,48 @@ pub(crate) struct OpenClaim {
     pub(crate) begun: u64,
 }
 
-// The newest under the token.
-pub(crate) fn newest_fence(fences: &[OpenFence], token: u64) -> Option<OpenFence>
-    ensures { result ≡ newest_fence token None fences.now }
-{
-    let mut found = None;
-    for begun in fences {
-        if begun.token == token {
-            found = Some(*begun);
-        }
+/// What begins under a token.
+pub(crate) trait Begun: Copy {
+    // its token
+    ghost token_of: { Self → ℕ };
+
+    /// Its token.
+    fn token(&self) -> u64
+        ensures { result ≡ token_of self.now };
+}
+
+impl Begun for OpenFence {
+    ghost token_of = { λ o. o.token };
+
+    fn token(&self) -> u64 {
+        self.token
     }
-    found
+}
+
+impl Begun for OpenClaim {
+    ghost token_of = { λ o. o.token };
+
+    fn token(&self) -> u64 {
+        self.token
+    }
 }
 
 // The newest under the token.
-pub(crate) fn newest_claim(claims: &[OpenClaim], token: u64) -> Option<OpenClaim>
-    ensures { result ≡ newest_claim token None claims.now }
+pub(crate) fn newest<B: Begun>(begun: &[B], token: u64) -> Option<B>
+    ensures { result ≡ newest B.token_of token None begun.now }
 {
     let mut found = None;
-    for begun in claims {
-        if begun.token == token {
-            found = Some(*begun);
+    for one in begun {
+        if one.token() == token {
+            found = Some(*one);
         }
     }
     found
 }
 
 // Without those under the token.
-pub(crate) fn end_fence(fences: &mut Vec<OpenFence>, token: u64)
-    ensures { fences.new.items ≡ filter (is_not_fence_of token) fences.old.items }
+pub(crate) fn end_all<B: Begun>(begun: &mut Vec<B>, token: u64)
+    ensures { begun.new.items ≡ filter (is_not_of B.token_of token) begun.old.items }
 {
-    fences.retain(|begun| begun.token != token);
-}
-
-// Without those under the token.
-pub(crate) fn end_claim(claims: &mut Vec<OpenClaim>, token: u64)
-    ensures { claims.new.items ≡ filter (is_not_claim_of token) claims.old.items }
-{
-    claims.retain(|begun| begun.token != token);
+    begun.retain(|one| one.token() != token);
 }

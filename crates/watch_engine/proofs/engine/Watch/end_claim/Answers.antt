@@ -17,8 +17,8 @@ returns-clause-warnings g c = λ hart trace at.
     let scheme = c.args.self.now.scheme in
     let token : ℕ = c.args.token in
     let held : List Held = c.args.self.now.held in
-    let found : Option OpenClaim = c.newest_claim-claim.result in
-    let is : found ≡ newest_claim token None c.args.self.now.claims.items = c.newest_claim-claim.ensures ∙ ap (newest_claim token None) c.as_slice.ensures.value in
+    let found : Option OpenClaim = c.newest-claim.result in
+    let is : found ≡ newest_claim token None c.args.self.now.claims.items = c.newest-claim.ensures ∙ ap (newest_claim token None) c.as_slice.ensures.value in
     subst (AreWarnings scheme (records.ClaimEnd hart token) trace) (sym (c.in_ok-given.ensures))
     (are_warnings scheme (records.ClaimEnd hart token) trace (Claim found) _ (claim_causes scheme hart token trace found (subst (IsOpenClaim trace token) (sym is) (at.claim token))) held at.are)
 
@@ -26,12 +26,12 @@ pub returns-clause-ok : goal.returns-clause-ok
 returns-clause-ok g c = λ hart trace at.
     let token : ℕ = c.args.token in
     let held : List Held = c.args.self.now.held in
-    let found : Option OpenClaim = c.newest_claim-claim.result in
-    let is : found ≡ newest_claim token None c.args.self.now.claims.items = c.newest_claim-claim.ensures ∙ ap (newest_claim token None) c.as_slice.ensures.value in
-    claim_end_stands at hart token _ _ (c.mark_given.ensures ∙ ap (λ o. map (marked_if Claimed (is_claimed_by o)) held) is) c.end_claim.ensures
+    let found : Option OpenClaim = c.newest-claim.result in
+    let is : found ≡ newest_claim token None c.args.self.now.claims.items = c.newest-claim.ensures ∙ ap (newest_claim token None) c.as_slice.ensures.value in
+    claim_end_stands at hart token _ _ (c.mark_given.ensures ∙ ap (λ o. map (marked_if Claimed (is_claimed_by o)) held) is) c.end_all.ensures
 
 pub mark_given-requires : goal.mark_given-requires
 mark_given-requires g c = λ none.
     let held : List Held = c.args.self.now.held in
-    let found : Option OpenClaim = c.newest_claim-claim.result in
+    let found : Option OpenClaim = c.newest-claim.result in
     still_same (Claim found) held (sym (c.in_ok-given.ensures) ∙ (sym c.as_slice-2.ensures.value ∙ none))

@@ -14,8 +14,8 @@ returns-clause-ok g c = λ hart trace at.
     let token : ℕ = c.args.token in
     let held : List Held = c.args.self.now.held in
     let drops : List PastFence = c.args.self.now.drops.fences.items in
-    let is : c.newest_fence-fence.result ≡ newest_fence token None c.args.self.now.fences.items = c.newest_fence-fence.ensures ∙ ap (newest_fence token None) c.as_slice.ensures.value in
+    let is : c.newest-fence.result ≡ newest_fence token None c.args.self.now.fences.items = c.newest-fence.ensures ∙ ap (newest_fence token None) c.as_slice.ensures.value in
     remote_end_stands at hart token _ _ _
     (c.drop_remote.ensures ∙ ap (λ (f : Option OpenFence). filter (outlives_remote scheme f) held) is)
     (c.in_ok-add_ended.ensures.ok ∙ ap (λ (f : Option OpenFence). ended f drops) is)
-    c.end_fence.ensures
+    c.end_all.ensures

@@ -1,6 +1,0 @@
-use Rattle.std.proofs.Common.{rules}
-use Rattle.std.proofs.lemmas.Fn.{filter_same}
-use Rattle.watch_engine.proofs.open.end_fence.Goals as goal
-
-pub returns : goal.returns
-returns c = filter_same _ _ _ (λ x b g called. search rules) _ _ c.retain.ensures.filtered
