@@ -13,7 +13,7 @@ ghost use Rattle.watch_engine.specs.Places.{AreFewGone, count_gone, has, items_o
 
 use crate::cause::Cause;
 use crate::concern::keys_of_cause;
-use crate::effect::Effect;
+use crate::effects::Effect;
 use crate::held::{Held, LastLive};
 use crate::indexes::Indexes;
 use crate::keys::{By, Keys};

@@ -5,7 +5,6 @@
 mod cause;
 mod chains;
 mod concern;
-mod effect;
 mod effects;
 mod engine;
 mod fence;

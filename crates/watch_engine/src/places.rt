@@ -9,7 +9,7 @@ ghost use Rattle.watch_engine.specs.Keys.{AreSmall, IsAmong, key_of};
 ghost use Rattle.watch_engine.specs.Places.{count_gone, items_of};
 
 use crate::chains::Chains;
-use crate::effect::{Effect, apply_to};
+use crate::effects::{Effect, apply_to};
 use crate::held::Held;
 use crate::keys::{By, Keys};
 

@@ -9,7 +9,7 @@ ghost use Rattle.watch_engine.specs.Held.{is_current_by, translation_of};
 ghost use Rattle.watch_engine.specs.Touched.{asks, is_below, is_kept_after, is_touched, is_touched_on, settled_if, store_change};
 
 use crate::concern::Concern;
-use crate::effect::Effect;
+use crate::effects::Effect;
 use crate::held::Held;
 use crate::last_answer::{LastAnswer, is_current_again};
 use crate::live::is_live_in;

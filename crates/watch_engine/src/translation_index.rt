@@ -8,7 +8,7 @@ ghost use Rattle.watch_engine.specs.Held.{held_from, remembered};
 ghost use Rattle.watch_engine.specs.PageRuns.{AreHartsOf};
 
 use crate::cause::Cause;
-use crate::effect::Effect;
+use crate::effects::Effect;
 use crate::held::LastLive;
 use crate::held_list::{HeldList, Items};
 use crate::shared::HARTS;
