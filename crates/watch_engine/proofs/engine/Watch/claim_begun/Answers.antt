@@ -1,6 +1,5 @@
-use Rattle.std.proofs.Common.{◌≡◌, ◌∙◌, ℕ, List, None, Option, Some, ap, subst, sym}
+use Rattle.std.proofs.Common.{◌≡◌, ◌∙◌, ℕ, None, Some, ap, subst, sym}
 use Rattle.std.specs.Prelude.{option_map}
-use Rattle.watch_engine.specs.declared.open.OpenClaim.{OpenClaim}
 use Rattle.watch_engine.specs.Open.{IsOpenClaim, claim_begun, newest_claim}
 use Rattle.watch_engine.proofs.engine.Watch.claim_begun.Goals as goal
 
