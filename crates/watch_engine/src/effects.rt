@@ -1,6 +1,6 @@
 //! What records do to what harts may hold.
 
-ghost use Rattle.std.specs.Prelude.{ℕ, ◌≡◌, ◌<◌, ◌∷◌, [], None, Some, false, filter, get_or, if◌then◌else◌, is_some, length, map, true};
+ghost use Rattle.std.specs.Prelude.{◌≡◌, ◌<◌, ◌∷◌, [], None, Some, false, filter, get_or, if◌then◌else◌, is_some, length, map, true};
 ghost use Rattle.std.specs.List.{list_any};
 ghost use Rattle.watch.specs.Computed.{is_mapped};
 ghost use Rattle.watch_engine.specs.Held.{all_found_again, is_current_by, is_found, marked_if, outlives_fence, outlives_remote, settled_unless_stale, translation_of, with_state};
