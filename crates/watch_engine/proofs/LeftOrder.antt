@@ -1,20 +1,18 @@
 -- Spaces that were left, in the order of their roots.
-use Rattle.std.proofs.Common.{◌≡◌, ℕ, zero, suc, Bool, true, false, ◌+◌, ◌-◌, ◌<◌, ◌≤◌, List, Option, Some, None, [], ◌∷◌, ◌++◌, length, get_or, take, drop, filter, ap, sym, ◌∙◌, subst, refl, inl, inr, arith}
+use Rattle.std.proofs.Common.{◌≡◌, ℕ, zero, suc, Bool, true, false, ◌+◌, ◌-◌, ◌<◌, ◌≤◌, List, Some, None, [], ◌∷◌, ◌++◌, length, get_or, take, drop, filter, ap, sym, ◌∙◌, subst, refl, inl, inr, arith}
 use Rattle.std.specs.Prelude.{◌==◌, ◌&&◌, cond, not}
 use Rattle.std.specs.List.{insert, slice_range}
 use Rattle.std.proofs.lemmas.List.{drop_more, get_or_default}
 use Rattle.std.proofs.lemmas.Bool.{and_parts, cases_lt, eq-eqb, eqb-true, lt-leb, ne_eqb, not_from_false, false_from_ne_true}
-use Rattle.walk.specs.Leads.{Tables}
-use Rattle.pte.specs.declared.scheme.Scheme.{Scheme}
 use Rattle.watch.specs.declared.trace.Space.{Space}
 use Rattle.watch_engine.specs.declared.held.LastLive.{LastLive}
 use Rattle.watch_engine.specs.declared.left.Left.{Left}
-use Rattle.watch_engine.specs.declared.left.PastFence.{PastFence}
 use Rattle.watch_tables.specs.declared.leaf.RootLeaf.{RootLeaf}
 use Rattle.watch_engine.specs.Left.{added, is_of, is_other, is_space}
 use Rattle.watch_engine.specs.LeftOrder.{AreByRoot, Begins, Ends}
-use Rattle.watch_engine.specs.Seen.{is_kept, kept_for, last_of, with_kept, with_leaves, with_live}
+use Rattle.watch_engine.specs.Seen.{is_kept, kept_for, last_of, with_kept, with_leaf, with_leaves, with_live}
 use Rattle.watch_engine.proofs.Lists.{from_at_most}
+use Rattle.watch_engine.specs.View.{View}
 
 -- a run ends no earlier than it begins
 pub ends_late : (left : List Left) (start end root : ℕ) → start ≤ length left → Begins left start root → Ends left end root → start ≤ end
@@ -109,42 +107,42 @@ append_none : (seen : List LastLive) → seen ++ [] ≡ seen
 append_none [] = refl
 append_none (s ∷ seen) = ap (λ (ss : List LastLive). s ∷ ss) (append_none seen)
 
-pub kept_of_root : (scheme : Scheme) (words : Tables) (satps : List (Option Space)) (drops : List PastFence) (leaf : RootLeaf) (left : List Left) (seen : List LastLive)
-    → with_kept scheme words satps drops leaf (filter (λ l. l.space.root == leaf.root) left) seen ≡ with_kept scheme words satps drops leaf left seen
-kept_of_root scheme words satps drops leaf [] seen = refl
-kept_of_root scheme words satps drops leaf (l ∷ left) seen =
+pub kept_of_root : (v : View) (leaf : RootLeaf) (left : List Left) (seen : List LastLive)
+    → with_kept v leaf (filter (λ l. l.space.root == leaf.root) left) seen ≡ with_kept v leaf left seen
+kept_of_root v leaf [] seen = refl
+kept_of_root v leaf (l ∷ left) seen =
     let rest : List Left = filter (λ l. l.space.root == leaf.root) left in
-    let go : (b : Bool) → (l.space.root == leaf.root) ≡ b → with_kept scheme words satps drops leaf (cond b (l ∷ rest) rest) seen ≡ with_kept scheme words satps drops leaf left (seen ++ kept_for scheme words satps drops leaf l) =
-    λ b. elim b as (λ b. (l.space.root == leaf.root) ≡ b → with_kept scheme words satps drops leaf (cond b (l ∷ rest) rest) seen ≡ with_kept scheme words satps drops leaf left (seen ++ kept_for scheme words satps drops leaf l)) [
-      | true ↦ λ same. kept_of_root scheme words satps drops leaf left (seen ++ kept_for scheme words satps drops leaf l)
+    let go : (b : Bool) → (l.space.root == leaf.root) ≡ b → with_kept v leaf (cond b (l ∷ rest) rest) seen ≡ with_kept v leaf left (seen ++ kept_for v leaf l) =
+    λ b. elim b as (λ b. (l.space.root == leaf.root) ≡ b → with_kept v leaf (cond b (l ∷ rest) rest) seen ≡ with_kept v leaf left (seen ++ kept_for v leaf l)) [
+      | true ↦ λ same. kept_of_root v leaf left (seen ++ kept_for v leaf l)
       | false ↦ λ other.
-          let none : is_kept scheme words satps drops leaf l ≡ false = false_from_ne_true _ (λ kept. let p = and_parts (l.space.root == leaf.root) _ kept in let no = sym p.0 ∙ other in cc) in
-          let nothing : kept_for scheme words satps drops leaf l ≡ [] = ap (λ b. cond b (last_of leaf l ∷ []) []) none in
-          kept_of_root scheme words satps drops leaf left seen
-          ∙ sym (ap (with_kept scheme words satps drops leaf left) (ap (λ (ks : List LastLive). seen ++ ks) nothing ∙ append_none seen))
+          let none : is_kept v leaf l ≡ false = false_from_ne_true _ (λ kept. let p = and_parts (l.space.root == leaf.root) _ kept in let no = sym p.0 ∙ other in cc) in
+          let nothing : kept_for v leaf l ≡ [] = ap (λ b. cond b (last_of leaf l ∷ []) []) none in
+          kept_of_root v leaf left seen
+          ∙ sym (ap (with_kept v leaf left) (ap (λ (ks : List LastLive). seen ++ ks) nothing ∙ append_none seen))
     ] in
     go (l.space.root == leaf.root) refl
 
 -- one leaf more of those with a root, of which the spaces with that root are asked
-pub leaf_added : (scheme : Scheme) (words : Tables) (now : ℕ) (satps : List (Option Space)) (left run : List Left) (drops : List PastFence)
+pub leaf_added : (v : View) (run : List Left)
     (leaves : List RootLeaf) (at root : ℕ) (leaf : RootLeaf) (seen new : List LastLive)
     → at < length leaves → leaf ≡ get_or leaves at leaf → (get_or leaves at leaf).root ≡ root
-    → run ≡ filter (λ l. l.space.root == root) left
-    → new ≡ with_kept scheme words satps drops leaf run (with_live now leaf 0 satps seen)
-    → with_leaves scheme words now satps left drops (drop (at + 1) leaves) new
-    ≡ with_leaves scheme words now satps left drops (drop at leaves) seen
-leaf_added scheme words now satps left run drops leaves at root leaf seen new within is of among added =
-    let live : List LastLive = with_live now leaf 0 satps seen in
+    → run ≡ filter (λ l. l.space.root == root) v.left
+    → new ≡ with_leaf v leaf run seen
+    → with_leaves v (drop (at + 1) leaves) new
+    ≡ with_leaves v (drop at leaves) seen
+leaf_added v run leaves at root leaf seen new within is of among added =
+    let live : List LastLive = with_live v.count leaf 0 v.satps seen in
     let same : leaf.root ≡ root = ap (λ (l : RootLeaf). l.root) is ∙ of in
-    let all : run ≡ filter (λ l. l.space.root == leaf.root) left =
-    among ∙ ap (λ (r : ℕ). filter (λ (l : Left). l.space.root == r) left) (sym same) in
-    let more : new ≡ with_kept scheme words satps drops leaf left live =
-    added ∙ (ap (λ (ls : List Left). with_kept scheme words satps drops leaf ls live) all
-    ∙ kept_of_root scheme words satps drops leaf left live) in
+    let all : run ≡ filter (λ l. l.space.root == leaf.root) v.left =
+    among ∙ ap (λ (r : ℕ). filter (λ (l : Left). l.space.root == r) v.left) (sym same) in
+    let more : new ≡ with_kept v leaf v.left live =
+    added ∙ (ap (λ (ls : List Left). with_kept v leaf ls live) all
+    ∙ kept_of_root v leaf v.left live) in
     let rest : drop at leaves ≡ leaf ∷ drop (at + 1) leaves =
     drop_more leaves at leaf within ∙ ap (λ (l : RootLeaf). l ∷ drop (at + 1) leaves) (sym is) in
-    ap (with_leaves scheme words now satps left drops (drop (at + 1) leaves)) more
-    ∙ ap (λ (ls : List RootLeaf). with_leaves scheme words now satps left drops ls seen) (sym rest)
+    ap (with_leaves v (drop (at + 1) leaves)) more
+    ∙ ap (λ (ls : List RootLeaf). with_leaves v ls seen) (sym rest)
 
 -- what is behind a place without those that a test drops
 abbrev pub dropped_from : (Left → Bool) → ℕ → List Left → List Left

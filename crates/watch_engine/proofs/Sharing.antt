@@ -1,5 +1,5 @@
 -- Who has the same word in the root can fill what is below it.
-use Rattle.std.proofs.Common.{◌≡◌, ◌∙◌, ap, sym, refl, Bool, true, false, Option, Some, None, List, [], ◌∷◌, ◌++◌, get_or, cond, append-nil}
+use Rattle.std.proofs.Common.{◌≡◌, ◌∙◌, ap, sym, refl, Bool, true, false, Some, List, [], ◌∷◌, ◌++◌, get_or, cond, append-nil}
 use Rattle.std.specs.Prelude.{◌==◌, ◌&&◌, nat_le, not}
 use Rattle.std.proofs.lemmas.Bool.{and_from, and_parts, or_left}
 use Rattle.pte.specs.declared.scheme.Scheme.{Scheme}
@@ -14,13 +14,13 @@ use Rattle.watch_tables.specs.declared.leaf.RootLeaf.{RootLeaf}
 use Rattle.watch_tables.proofs.RootWords.{leaf-like}
 use Rattle.watch_engine.specs.declared.held.LastLive.{LastLive}
 use Rattle.watch_engine.specs.declared.left.Left.{Left}
-use Rattle.watch_engine.specs.declared.left.PastFence.{PastFence}
 use Rattle.watch_engine.specs.declared.live.Answer.{Answer}
 use Rattle.watch_engine.specs.declared.live.Answer.TheVariants.{Live, NotLive, Unasked}
 use Rattle.watch_engine.specs.Filling.{Agrees, AreAnswers, is_live_answer}
 use Rattle.watch_engine.specs.Held.{last_translation, translation_in}
 use Rattle.watch_engine.specs.Seen.{is_kept, kept_for, last_of, with_kept}
 use Rattle.watch_engine.specs.Shared.{IsBelow, are_all_live}
+use Rattle.watch_engine.specs.View.{View, is_live_for}
 
 pub live-below : (scheme : Scheme) (words : Tables) (leaf : RootLeaf) (space : Space) → words leaf.root (vpn_of leaf.entry.page.base (top_level scheme)) ≡ words space.root (vpn_of leaf.entry.page.base (top_level scheme))
     → (e : Entry) (s : Space) → IsBelow scheme leaf e → HasLeaf scheme words leaf.root e → is_live_in scheme words (Some space) (translation_in s e) ≡ true
@@ -42,12 +42,12 @@ live-known Unasked live is agrees = cc
 live-known Live live is agrees = agrees
 live-known NotLive live is agrees = cc
 
-pub none-kept : (scheme : Scheme) (words : Tables) (satps : List (Option Space)) (drops : List PastFence) (leaf : RootLeaf) (answers : List Answer) → AreAnswers scheme words satps leaf.entry answers
-    → (left : List Left) (seen : List LastLive) → are_all_live answers left ≡ true → with_kept scheme words satps drops leaf left seen ≡ seen
-none-kept scheme words satps drops leaf answers are [] seen all = refl
-none-kept scheme words satps drops leaf answers are (l ∷ left) seen all =
+pub none-kept : (v : View) (leaf : RootLeaf) (answers : List Answer) → AreAnswers v leaf.entry answers
+    → (left : List Left) (seen : List LastLive) → are_all_live answers left ≡ true → with_kept v leaf left seen ≡ seen
+none-kept v leaf answers are [] seen all = refl
+none-kept v leaf answers are (l ∷ left) seen all =
     let parts = and_parts (is_live_answer (get_or answers l.hart Unasked)) _ all in
-    let live : is_live_in scheme words (get_or satps l.hart None) (last_translation (last_of leaf l)) ≡ true = live-known (get_or answers l.hart Unasked) _ parts.0 (are.each l.hart l.space) in
-    let none : is_kept scheme words satps drops leaf l ≡ false = not-kept (l.space.root == leaf.root) (nat_le leaf.since l.left) _ _ live in
-    let same : seen ++ kept_for scheme words satps drops leaf l ≡ seen = ap (λ (kept : Bool). seen ++ cond kept (last_of leaf l ∷ []) []) none ∙ append-nil seen in
-    ap (with_kept scheme words satps drops leaf left) same ∙ none-kept scheme words satps drops leaf answers are left seen parts.1
+    let live : is_live_for v l.hart (last_translation (last_of leaf l)) ≡ true = live-known (get_or answers l.hart Unasked) _ parts.0 (are.each l.hart l.space) in
+    let none : is_kept v leaf l ≡ false = not-kept (l.space.root == leaf.root) (nat_le leaf.since l.left) _ _ live in
+    let same : seen ++ kept_for v leaf l ≡ seen = ap (λ (kept : Bool). seen ++ cond kept (last_of leaf l ∷ []) []) none ∙ append-nil seen in
+    ap (with_kept v leaf left) same ∙ none-kept v leaf answers are left seen parts.1

@@ -1,13 +1,9 @@
 -- What a store makes of what harts may hold.
-use Rattle.std.proofs.Common.{◌≡◌, ℕ, Bool, true, false, List, [], ◌∷◌, map, get_or, ap, sym, ◌∙◌, refl, Option, None}
+use Rattle.std.proofs.Common.{◌≡◌, ℕ, Bool, true, false, List, [], ◌∷◌, map, ap, sym, ◌∙◌, refl, Option, None}
 use Rattle.std.specs.Prelude.{◌&&◌, ◌||◌, Some, cond, filter, is_some, not}
 use Rattle.std.specs.List.{list_any}
 use Rattle.std.proofs.lemmas.Bool.{true≢false}
 use Rattle.pte.specs.declared.scheme.Scheme.{Scheme}
-use Rattle.walk.specs.Leads.{Tables}
-use Rattle.watch.specs.declared.trace.Space.{Space}
-use Rattle.watch.specs.Computed.{is_mapped}
-use Rattle.watch.specs.ComputedTraces.{is_live_in}
 use Rattle.watch.specs.Trace.{index_of}
 use Rattle.watch_tables.specs.declared.way.Way.{Way}
 use Rattle.watch_engine.specs.declared.held.Held.{Held}
@@ -15,13 +11,14 @@ use Rattle.watch_engine.specs.declared.state.State.{State}
 use Rattle.watch_engine.specs.declared.state.State.TheVariants.{Current, Gone, Stale}
 use Rattle.watch_engine.specs.Concerns.{concerns, store_on}
 use Rattle.watch_engine.specs.Effects.{AreThere, all_changed, or_same}
-use Rattle.watch_engine.specs.Held.{is_current_by, translation_of, with_state}
+use Rattle.watch_engine.specs.Held.{translation_of, with_state}
 use Rattle.watch_engine.specs.State.{is_gone, recheck_of, rechecked}
-use Rattle.watch_engine.specs.Touched.{is_filled_again, is_kept_after, is_touched, settled_if, store_change}
+use Rattle.watch_engine.specs.Touched.{all_settled, is_filled_again, is_kept_after, is_touched, settled, store_change}
 use Rattle.watch_engine.proofs.Emptying.{items_turned}
 use Rattle.watch_engine.proofs.Lists.{each_of}
 use Rattle.watch_engine.proofs.Rechecks.{touched_stays}
 use Rattle.watch_engine.proofs.Walks.{and_no}
+use Rattle.watch_engine.specs.View.{View, is_current_in, is_live_for}
 
 -- what a store makes of a state
 abbrev to_state : (touched live current : Bool) (n : ℕ) → State → Option State
@@ -59,18 +56,15 @@ if_touched : (touched : Bool) (to : Option State) → is_some (cond touched to N
 if_touched true to is = refl
 if_touched false to is = absurd (true≢false (sym is))
 
-pub told : (scheme : Scheme) (words : Tables) (satps : List (Option Space)) (roots : List ℕ) (address : ℕ) (ways : List Way) (n : ℕ) (i : Held)
-    → is_some (store_change scheme words satps roots (index_of address) ways n i) ≡ true → list_any (λ c. concerns c i) (map (store_on scheme roots address) ways) ≡ true
-told scheme words satps roots address ways n i is = on_a_way scheme roots address i ways ∙ if_touched (is_touched scheme roots (index_of address) ways (translation_of i)) _ is
+pub told : (v : View) (address : ℕ) (ways : List Way) (i : Held) → is_some (store_change v (index_of address) ways i) ≡ true → list_any (λ c. concerns c i) (map (store_on v.scheme v.roots address) ways) ≡ true
+told v address ways i is = on_a_way v.scheme v.roots address i ways ∙ if_touched (is_touched v.scheme v.roots (index_of address) ways (translation_of i)) _ is
 
-pub store_left : (scheme : Scheme) (words : Tables) (satps : List (Option Space)) (roots : List ℕ) (index : ℕ) (ways : List Way) (n : ℕ) (held : List Held) → AreThere held
-    → all_changed (store_change scheme words satps roots index ways n) held
-    ≡ map (λ i. settled_if (is_touched scheme roots index ways (translation_of i)) (is_current_by (is_mapped scheme words) roots (translation_of i)) n i) (filter (is_kept_after scheme words satps roots index ways) held)
-store_left scheme words satps roots index ways n held there =
-    let touch : Held → Bool = λ i. is_touched scheme roots index ways (translation_of i) in
-    let current : Held → Bool = λ i. is_current_by (is_mapped scheme words) roots (translation_of i) in
-    let live : Held → Bool = λ i. is_live_in scheme words (get_or satps i.hart None) (translation_of i) in
-    let after : Held → State = λ i. (settled_if (touch i) (current i) n i).state in
-    (λ j. filter (λ i. not (is_gone i.state)) (map (λ i. with_state (turned_state (touch i) (live i) (current i) n i.state j) i) held))
-    ∙ (items_turned after (is_filled_again scheme words satps roots index ways) held (each_of (λ i. is_gone (after i) ≡ is_gone i.state) (λ i. touched_stays (touch i) (current i) n i.state) held)
-    ∙ ap (λ (is : List Held). map (λ i. with_state (after i) i) (filter (is_kept_after scheme words satps roots index ways) is)) there)
+pub store_left : (v : View) (index : ℕ) (ways : List Way) (held : List Held) → AreThere held → all_changed (store_change v index ways) held ≡ all_settled v index ways held
+store_left v index ways held there =
+    let touch : Held → Bool = λ i. is_touched v.scheme v.roots index ways (translation_of i) in
+    let current : Held → Bool = λ i. is_current_in v (translation_of i) in
+    let live : Held → Bool = λ i. is_live_for v i.hart (translation_of i) in
+    let after : Held → State = λ i. (settled v index ways i).state in
+    (λ j. filter (λ i. not (is_gone i.state)) (map (λ i. with_state (turned_state (touch i) (live i) (current i) v.count i.state j) i) held))
+    ∙ (items_turned after (is_filled_again v index ways) held (each_of (λ i. is_gone (after i) ≡ is_gone i.state) (λ i. touched_stays (touch i) (current i) v.count i.state) held)
+    ∙ ap (λ (is : List Held). map (λ i. with_state (after i) i) (filter (is_kept_after v index ways) is)) there)

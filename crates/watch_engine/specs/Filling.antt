@@ -1,13 +1,11 @@
 -- Answers to whether harts can fill a leaf now, each in the place of its hart.
-use Rattle.std.specs.Prelude.{ℕ, Bool, ◌≡◌, ◌<◌, ◌&&◌, List, Option, None, false, get_or, length, true}
-use Rattle.pte.specs.declared.scheme.Scheme.{Scheme}
-use Rattle.walk.specs.Leads.{Tables}
+use Rattle.std.specs.Prelude.{ℕ, Bool, ◌≡◌, ◌<◌, ◌&&◌, List, false, get_or, length, true}
 use Rattle.tlb.specs.declared.store.Entry.{Entry}
 use Rattle.watch.specs.declared.trace.Space.{Space}
-use Rattle.watch.specs.ComputedTraces.{is_live_in}
 use Rattle.watch_engine.specs.declared.live.Answer.{Answer}
 use Rattle.watch_engine.specs.declared.live.Answer.TheVariants.{Live, NotLive, Unasked}
 use Rattle.watch_engine.specs.Held.{is_same_entry, translation_in}
+use Rattle.watch_engine.specs.View.{View, is_live_for}
 use Rattle.watch_tables.specs.declared.leaf.RootLeaf.{RootLeaf}
 
 abbrev pub answer_from : Bool → Answer
@@ -27,12 +25,11 @@ Agrees NotLive live = live ≡ false
 
 -- what harts answer of a leaf: of one that is not global nothing is kept, of one that is global the
 -- answer is the same whichever space it is asked of
-pub record AreAnswers (scheme : Scheme) (words : Tables) (satps : List (Option Space)) (e : Entry)
-    (answers : List Answer) : Type 0 where
+pub record AreAnswers (v : View) (e : Entry) (answers : List Answer) : Type 0 where
   pub global : (hart : ℕ) → hart < length answers → e.global ≡ true
   pub each :
       (hart : ℕ) (space : Space)
-      → Agrees (get_or answers hart Unasked) (is_live_in scheme words (get_or satps hart None) (translation_in space e))
+      → Agrees (get_or answers hart Unasked) (is_live_for v hart (translation_in space e))
 
 -- global leaves with the same entry
 abbrev pub are_alike : RootLeaf → RootLeaf → Bool

@@ -2,7 +2,7 @@
 use Rattle.std.specs.Prelude.{Bool, ◌≡◌, Option}
 use Rattle.std.specs.Option.{ForSome}
 use Rattle.watch.specs.Holding.{Translation}
-use Rattle.watch_engine.specs.declared.last_answer.LastAnswer.{LastAnswer}
+use Rattle.watch_engine.specs.declared.touched.LastAnswer.{LastAnswer}
 
 -- if there was one, it is right
 abbrev pub IsAnswered : (Translation → Bool) → Option LastAnswer → Type 0

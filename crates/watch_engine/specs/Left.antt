@@ -54,11 +54,15 @@ added one [] = one ∷ []
 added one (l ∷ left) =
     if nat_le l.space.root one.space.root then l ∷ added one left else one ∷ l ∷ left
 
--- with the space that a hart leaves
-abbrev pub with_left : ℕ → Option Space → ℕ → ℕ → List Left → List Left
-with_left hart None now fences left = left
-with_left hart (Some space) now fences left =
-    added (record { hart = hart; space = space; left = now; fences = fences }) left
+-- the space that a hart leaves, after so many records and fences
+abbrev pub left_of : ℕ → Option Space → ℕ → ℕ → Option Left
+left_of hart None now fences = None
+left_of hart (Some space) now fences = Some (record { hart = hart; space = space; left = now; fences = fences })
+
+-- with it, if there is one
+abbrev pub with_left : Option Left → List Left → List Left
+with_left None left = left
+with_left (Some one) left = added one left
 
 abbrev pub is_space : Option Space → Space → Bool
 is_space None space = false

@@ -5,6 +5,7 @@ pub mod KeptWays
 pub mod Left
 pub mod LeftOrder
 pub mod Satps
+pub mod View
 pub mod Seen
 pub mod Touched
 pub mod Causes

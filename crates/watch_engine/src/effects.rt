@@ -1,9 +1,9 @@
 //! What records do to what harts may hold.
 
-ghost use Rattle.std.specs.Prelude.{◌≡◌, ◌<◌, ◌∷◌, [], None, Some, false, filter, get_or, if◌then◌else◌, is_some, length, map, true};
+ghost use Rattle.std.specs.Prelude.{◌≡◌, ◌<◌, ◌∷◌, ◌⊎◌, [], None, Some, false, filter, get_or, if◌then◌else◌, is_some, length, map, true};
 ghost use Rattle.std.specs.List.{list_any};
 ghost use Rattle.watch.specs.Computed.{is_mapped};
-ghost use Rattle.watch_engine.specs.Held.{all_found_again, is_current_by, is_found, marked_if, outlives_fence, outlives_remote, settled_unless_stale, translation_of, with_state};
+ghost use Rattle.watch_engine.specs.Held.{all_found_again, is_current_by, is_found, marked_if, outlives_fence, outlives_remote, translation_of, with_state};
 ghost use Rattle.watch_engine.specs.Causes.{applies, verdict_of};
 ghost use Rattle.watch_engine.specs.declared.concern.Concern.TheVariants.{All, Fence, Given, Remote};
 ghost use Rattle.watch_engine.specs.declared.state.State.TheVariants.{Current, Gone};
@@ -12,6 +12,8 @@ ghost use Rattle.watch_engine.specs.Effects.{Does, changed, is_due, or_same};
 ghost use Rattle.watch_engine.specs.declared.concern.Concern.{Concern as ConcernOf};
 ghost use Rattle.watch_engine.specs.declared.held.Held.{Held as HeldOf};
 ghost use Rattle.watch_engine.specs.State.{given_of, is_gone, stale_of};
+ghost use Rattle.watch_engine.specs.Touched.{settled_taken};
+ghost use Rattle.watch_engine.specs.View.{view_of};
 
 use crate::cause::Cause;
 use crate::concern::Concern;
@@ -21,6 +23,7 @@ use crate::roots::{is_current, is_mapped};
 use crate::state::State;
 use crate::tables::Tables;
 use crate::translation_index::TranslationIndex;
+use crate::view::View;
 use crate::warning::Warning;
 use pte::Scheme;
 
@@ -150,28 +153,26 @@ impl<T: Tables> Effect for SettleUnlessStale<'_, T> {
     }
 }
 
-// With what the tables have now, if something may have been taken from that and nothing put to it.
+// With what the tables have now, if words at some addresses were taken from that or not all roots stay,
+// and nothing was put to it.
 pub(crate) fn settle_taken<T: Tables>(
-    changed: bool,
+    addresses: &[u64],
+    all_stay: bool,
     held: &mut TranslationIndex,
-    tables: &T,
-    scheme: Scheme,
-    roots: &[u64],
-    count: u64,
+    view: &View<'_, T>,
 )
-    ensures { held.new
-        ≡ (if changed then map (λ i. settled_unless_stale (is_current_by
-        (is_mapped scheme (T.words tables.now)) roots.now (translation_of i)) count i)
-        held.old else held.old) }
+    ensures { (held.new ≡ settled_taken (view_of view.now) held.old)
+        ⊎ ((addresses.now ≡ []) × (all_stay ≡ true) × (held.new ≡ held.old)) }
 {
-    if changed {
-        held.apply(&mut SettleUnlessStale {
-            tables,
-            scheme,
-            roots,
-            count,
-        });
+    if addresses.is_empty() && all_stay {
+        return;
     }
+    held.apply(&mut SettleUnlessStale {
+        tables: view.tables,
+        scheme: view.scheme,
+        roots: view.roots.as_slice(),
+        count: view.count,
+    });
 }
 
 // Gives the verdict of a cause to what it is of.

@@ -4,13 +4,14 @@ ghost use Rattle.std.specs.Prelude.{ℕ, ◌≡◌, ◌<◌, ◌^◌, ◌-◌, �
 ghost use Rattle.watch.specs.Trace.{Trace, claim_of, words_of};
 ghost use Rattle.watch.specs.declared.trace.Record.TheVariants as records;
 ghost use Rattle.watch_engine.specs.KeptWays.{AreKept};
+ghost use Rattle.watch_engine.specs.Left.{left_of};
 ghost use Rattle.watch_engine.specs.Open.{claim_begun};
 ghost use Rattle.watch_engine.specs.Warnings.{AreWarnings};
 
 use crate::cause::Cause;
 use crate::effects::{drop_fenced, drop_remote, find_again, mark_given, settle_taken};
 use crate::kept_ways::KeptWays;
-use crate::left::{add_ended, add_fence};
+use crate::left::{Left, add_ended, add_fence};
 use crate::left_spaces::LeftSpaces;
 use crate::open::{OpenClaim, OpenFence, end_all, newest};
 use crate::page_runs::remember_all;
@@ -21,6 +22,7 @@ use crate::seen::{add_seen, add_seen_in};
 use crate::tables::Tables;
 use crate::touched::settle_touched;
 use crate::translation_index::TranslationIndex;
+use crate::view::View;
 use crate::warning::{Warning, warnings};
 use pte::Scheme;
 use std::alloc::{AllocError, Global};
@@ -67,16 +69,9 @@ pub struct Watch<T: Tables> {
     ghost kept: { AreKept scheme (T.words tables) (T.since tables) kept_ways },
 }
 
-// Words of frames that are given out were not 0, or a root among them is none any more.
-fn may_differ(addresses: &[u64], keeps: bool) -> bool
-    ensures words { result ≡ false → addresses.now ≡ [] }
-    ensures roots { result ≡ false → keeps ≡ true }
-{
-    !addresses.is_empty() || !keeps
-}
-
 impl<T: Tables> Watch<T> {
-    ghost use Rattle.watch_engine.specs.Watching.{Follows, KeepsAll};
+    ghost use Rattle.watch_engine.specs.View.{view_of};
+    ghost use Rattle.watch_engine.specs.Watching.{Follows, KeepsAll, view_in};
 
     /// A watch of a scheme that has seen no record, over tables of which nothing is stored.
     pub fn new(alloc: Global, scheme: Scheme, tables: T) -> Watch<T>
@@ -100,11 +95,42 @@ impl<T: Tables> Watch<T> {
         }
     }
 
+    // What it reads now.
+    fn view(&self) -> View<'_, T>
+        ensures { view_of result ≡ view_in T.words T.since self.now }
+    {
+        View {
+            tables: &self.tables,
+            scheme: self.scheme,
+            satps: self.satps.spaces(),
+            roots: &self.roots,
+            left: &self.left,
+            drops: &self.drops,
+            count: self.count,
+        }
+    }
+
     // What is in the satp of a hart.
     fn satp(&self, hart: u8) -> Option<Space>
         ensures { result ≡ get_or self.now.satps.spaces.items hart None }
     {
         satp_in(self.satps.spaces(), hart)
+    }
+
+    // The space in the satp of a hart, as one that it leaves now.
+    fn left_of(&self, hart: u8) -> Option<Left>
+        ensures { result ≡ left_of hart (get_or self.now.satps.spaces.items hart None)
+            self.now.count (length self.now.drops.fences.items) }
+    {
+        match self.satp(hart) {
+            None => None,
+            Some(space) => Some(Left {
+                hart,
+                space,
+                left: self.count,
+                fences: self.drops.fences.as_slice().len() as u64,
+            }),
+        }
     }
 
     // A word is stored.
@@ -123,30 +149,25 @@ impl<T: Tables> Watch<T> {
         let mut seen = Vec::new(self.alloc);
         add_seen(
             self.alloc,
-            &self.tables,
-            self.scheme,
-            self.satps.spaces(),
-            &self.left,
-            &self.drops,
+            &self.view(),
             address,
             ways.as_slice(),
-            self.count,
             &mut seen,
         )?;
         remember_all(&mut self.held, seen.as_slice())?;
         let stay = self.tables.keeps_ways(address, word);
         self.tables.store(address, word, self.count + 1)?;
         self.count += 1;
-        settle_touched(
-            &mut self.held,
-            &self.tables,
-            self.scheme,
-            self.satps.spaces(),
-            &self.roots,
-            address,
-            ways.as_slice(),
-            self.count,
-        );
+        let view = View {
+            tables: &self.tables,
+            scheme: self.scheme,
+            satps: self.satps.spaces(),
+            roots: &self.roots,
+            left: &self.left,
+            drops: &self.drops,
+            count: self.count,
+        };
+        settle_touched(&mut self.held, &view, address, ways.as_slice());
         self.kept_ways.keep(address, ways, stay);
         Ok(())
     }
@@ -162,11 +183,8 @@ impl<T: Tables> Watch<T> {
         ensures stays { OnErr result (KeepsAll T.words T.since self.old self.new) }
     {
         self.satps.add_hart(hart)?;
-        let old = self.satp(hart);
-        let fences = self.drops.fences.as_slice().len();
-        let new = self
-            .left
-            .add(&mut self.roots, hart, old, space, self.count, fences)?;
+        let left = self.left_of(hart);
+        let new = self.left.add(&mut self.roots, left, space)?;
         self.left.drop_back(hart, space);
         self.satps.write(hart, space);
         self.count += 1;
@@ -267,17 +285,7 @@ impl<T: Tables> Watch<T> {
         let given = warnings(self.alloc, &self.held, &cause)?;
         let addresses = self.tables.stored_in(self.alloc, frames)?;
         let mut seen = Vec::new(self.alloc);
-        add_seen_in(
-            self.alloc,
-            &self.tables,
-            self.scheme,
-            self.satps.spaces(),
-            &self.left,
-            &self.drops,
-            addresses.as_slice(),
-            self.count,
-            &mut seen,
-        )?;
+        add_seen_in(self.alloc, &self.view(), addresses.as_slice(), &mut seen)?;
         remember_all(&mut self.held, seen.as_slice())?;
         mark_given(&mut self.held, &cause, given.as_slice());
         self.kept_ways.keep_unless_any(addresses.as_slice());
@@ -286,14 +294,16 @@ impl<T: Tables> Watch<T> {
             .left
             .drop_given(&mut self.roots, frames, self.satps.spaces());
         self.count += 1;
-        settle_taken(
-            may_differ(addresses.as_slice(), keeps),
-            &mut self.held,
-            &self.tables,
-            self.scheme,
-            self.roots.as_slice(),
-            self.count,
-        );
+        let view = View {
+            tables: &self.tables,
+            scheme: self.scheme,
+            satps: self.satps.spaces(),
+            roots: &self.roots,
+            left: &self.left,
+            drops: &self.drops,
+            count: self.count,
+        };
+        settle_taken(addresses.as_slice(), keeps, &mut self.held, &view);
         Ok(given)
     }
 

@@ -262,30 +262,21 @@ impl LeftSpaces {
     pub(crate) fn add(
         &mut self,
         roots: &mut Roots,
-        hart: u8,
-        old: Option<Space>,
+        left: Option<Left>,
         new: Option<Space>,
-        count: u64,
-        fences: usize,
     ) -> Result<Option<u64>, AllocError>
-        ensures left { OnOk result (self.new ≡ with_left hart old count fences self.old) }
+        ensures left { OnOk result (self.new ≡ with_left left self.old) }
         ensures roots { OnOk result (AreEntered new roots.old roots.new) }
         ensures same { IfOk result (λ root. root ≡ None → roots.new ≡ roots.old) }
         ensures more { IfOk result (λ root. (r : ℕ) → root ≡ Some r → IsWith r roots.old roots.new) }
         ensures err { OnErr result (self.new ≡ self.old) }
         ensures err_roots { OnErr result (roots.new ≡ roots.old) }
     {
-        let Some(space) = old else {
+        let Some(one) = left else {
             return roots.add(new);
         };
         self.spaces.reserve(1)?;
         let root = roots.add(new)?;
-        let one = Left {
-            hart,
-            space,
-            left: count,
-            fences: fences as u64,
-        };
         add_reserved(&mut self.spaces, one);
         Ok(root)
     }

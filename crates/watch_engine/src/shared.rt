@@ -10,12 +10,14 @@ ghost use Rattle.watch_tables.specs.declared.leaf.RootLeaf.{RootLeaf as RootLeaf
 ghost use Rattle.watch_engine.specs.Filling.{are_alike};
 ghost use Rattle.watch_engine.specs.Held.{translation_in};
 ghost use Rattle.watch_engine.specs.Shared.{AreAnswersBelow, are_all_live, HasWordOf, IsBelow, IsBeside};
+ghost use Rattle.watch_engine.specs.View.{view_of};
 
 use crate::held::is_same_entry;
 use crate::left::Left;
 use crate::live::{Answer, answer_of, keep_answer};
 use crate::satps::satp_in;
 use crate::tables::Tables;
+use crate::view::View;
 use pte::Scheme;
 use watch::Space;
 use watch_tables::RootLeaf;
@@ -62,41 +64,34 @@ pub(crate) fn begins_beside(scheme: Scheme, leaves: &[RootLeaf], at: usize) -> b
 
 /// There is a space, and its root has the word of this root at the index.
 pub(crate) fn has_word_of<T: Tables>(
-    tables: &T,
+    view: &View<'_, T>,
     space: Option<Space>,
     root: u64,
     index: u16,
 ) -> bool
-    ensures { IsTrue result → HasWordOf (T.words tables.now) root index space }
+    ensures { IsTrue result → HasWordOf (view_of view.now) root index space }
 {
     match space {
         None => false,
-        Some(space) => tables.has_same_word(root, space.root, index),
+        Some(space) => view.tables.has_same_word(root, space.root, index),
     }
 }
 
 // The root of the space has the word above the leaf: then who has the space can fill what is below it.
-fn has_word<T: Tables>(tables: &T, scheme: Scheme, space: Option<Space>, leaf: &RootLeaf) -> bool
-    ensures { IsTrue result → (e : EntryOf) (s : SpaceOf) → IsBelow scheme leaf.now e
-        → HasLeaf scheme (T.words tables.now) leaf.now.root e
-        → is_live_in scheme (T.words tables.now) space (translation_in s e) ≡ true }
+fn has_word<T: Tables>(view: &View<'_, T>, space: Option<Space>, leaf: &RootLeaf) -> bool
+    ensures { IsTrue result → (e : EntryOf) (s : SpaceOf) → IsBelow view.now.scheme leaf.now e
+        → HasLeaf view.now.scheme (T.words view.now.tables.now) leaf.now.root e
+        → is_live_in view.now.scheme (T.words view.now.tables.now) space (translation_in s e) ≡ true }
 {
-    has_word_of(tables, space, leaf.root, index_in_root(scheme, leaf))
+    has_word_of(view, space, leaf.root, index_in_root(view.scheme, leaf))
 }
 
 // The hart answers, if its root has the word above the leaf.
-fn answer_below<T: Tables>(
-    answers: &mut [Answer],
-    tables: &T,
-    scheme: Scheme,
-    satps: &[Option<Space>],
-    hart: u8,
-    leaf: &RootLeaf,
-)
-    requires { AreAnswersBelow scheme (T.words tables.now) satps.now leaf.now answers.old }
-    ensures { AreAnswersBelow scheme (T.words tables.now) satps.now leaf.now answers.new }
+fn answer_below<T: Tables>(answers: &mut [Answer], view: &View<'_, T>, hart: u8, leaf: &RootLeaf)
+    requires { AreAnswersBelow (view_of view.now) leaf.now answers.old }
+    ensures { AreAnswersBelow (view_of view.now) leaf.now answers.new }
 {
-    if has_word(tables, scheme, satp_in(satps, hart), leaf) {
+    if has_word(view, satp_in(view.satps, hart), leaf) {
         keep_answer(answers, hart, true);
     }
 }
@@ -104,17 +99,15 @@ fn answer_below<T: Tables>(
 /// What the harts that left these spaces answer of each global leaf below the word above this leaf:
 /// those whose root has the same word can fill it, and the others are still to be asked.
 pub(crate) fn answers_below<T: Tables>(
-    tables: &T,
-    scheme: Scheme,
-    satps: &[Option<Space>],
+    view: &View<'_, T>,
     left: &[Left],
     leaf: &RootLeaf,
 ) -> [Answer; HARTS]
-    ensures { AreAnswersBelow scheme (T.words tables.now) satps.now leaf.now result }
+    ensures { AreAnswersBelow (view_of view.now) leaf.now result }
 {
     let mut answers = [Answer::Unasked; HARTS];
     for space in left {
-        answer_below(&mut answers, tables, scheme, satps, space.hart, leaf);
+        answer_below(&mut answers, view, space.hart, leaf);
     }
     answers
 }

@@ -1,25 +1,25 @@
 //! The translations that a store to a word can concern.
 
-ghost use Rattle.std.specs.Prelude.{◌≡◌, filter, map};
-ghost use Rattle.watch.specs.Computed.{is_mapped};
+ghost use Rattle.std.specs.Prelude.{◌≡◌, map};
 ghost use Rattle.watch.specs.Trace.{index_of};
 ghost use Rattle.watch_engine.specs.Concerns.{store_on};
 ghost use Rattle.watch_engine.specs.LastAnswer.{IsAnswered};
-ghost use Rattle.watch_engine.specs.Held.{is_current_by, translation_of};
-ghost use Rattle.watch_engine.specs.Touched.{asks, is_below, is_kept_after, is_touched, is_touched_on, settled_if, store_change};
+ghost use Rattle.watch_engine.specs.Held.{translation_of};
+ghost use Rattle.watch_engine.specs.Touched.{all_settled, asks, is_below, is_touched, is_touched_on, store_change};
+ghost use Rattle.watch_engine.specs.View.{is_current_in, view_of};
 
 use crate::concern::Concern;
 use crate::effects::Effect;
-use crate::held::Held;
-use crate::last_answer::{LastAnswer, is_current_again};
+use crate::held::{Held, is_same_entry};
 use crate::live::is_live_in;
-use crate::roots::Roots;
+use crate::roots::{Roots, is_current};
 use crate::satps::satp_in;
 use crate::state::State;
 use crate::tables::Tables;
 use crate::translation_index::TranslationIndex;
+use crate::view::View;
 use pte::{PAGE_BYTES, Page, Scheme};
-use watch::Space;
+use tlb::Entry;
 use watch_tables::Way;
 
 /// How many bytes a word of a table has.
@@ -84,27 +84,57 @@ fn is_touched(scheme: Scheme, roots: &Roots, address: u64, ways: &[Way], item: &
     is_touched_on_any(scheme, roots, address, ways, item)
 }
 
+// A translation, and whether the tables have it as long as they stay the same.
+#[derive(Clone, Copy, PartialEq, Eq, Debug)]
+struct LastAnswer {
+    root: u64,
+    entry: Entry,
+    current: bool,
+}
+
+// The tables of the root have the entry or, where it is global, those of one of the roots. What harts
+// may hold of one translation stands side by side, so the last answer is often the next.
+fn is_current_again<T: Tables>(
+    view: &View<'_, T>,
+    last: &mut Option<LastAnswer>,
+    root: u64,
+    entry: &Entry,
+) -> bool
+    requires { IsAnswered (is_current_in (view_of view.now)) last.old }
+    ensures value { result ≡ is_current_in (view_of view.now)
+        (record { root = root; entry = entry.now }) }
+    ensures last { IsAnswered (is_current_in (view_of view.now))
+        last.new }
+{
+    if let Some(answer) = *last {
+        if answer.root == root && is_same_entry(&answer.entry, entry) {
+            return answer.current;
+        }
+    }
+    let current = is_current(view.tables, view.scheme, view.roots.as_slice(), root, entry);
+    *last = Some(LastAnswer {
+        root,
+        entry: *entry,
+        current,
+    });
+    current
+}
+
 /// What a store makes of what lies below the word: with what the tables have then it is current or
 /// stale, and what can be filled again goes.
 #[derive(Drop)]
 struct SettleTouched<'a, T: Tables> {
-    tables: &'a T,
-    scheme: Scheme,
-    satps: &'a [Option<Space>],
-    roots: &'a Roots,
+    view: &'a View<'a, T>,
     address: u64,
     ways: &'a [Way],
-    count: u64,
     last: Option<LastAnswer>,
-    ghost answered: { IsAnswered (is_current_by (is_mapped scheme (T.words tables.now)) roots.now)
-        last },
+    ghost answered: { IsAnswered (is_current_in (view_of view.now)) last },
 }
 
 impl<T: Tables> Effect for SettleTouched<'_, T> {
     ghost does = { λ s. record {
-      change = store_change s.scheme (T.words s.tables.now) s.satps.now s.roots.now
-          (index_of s.address) s.ways.now s.count;
-      concerns = map (store_on s.scheme s.roots.now s.address) s.ways.now;
+      change = store_change (view_of s.view.now) (index_of s.address) s.ways.now;
+      concerns = map (store_on s.view.now.scheme s.view.now.roots.now s.address) s.ways.now;
     } };
 
     fn count(&self) -> usize {
@@ -114,32 +144,26 @@ impl<T: Tables> Effect for SettleTouched<'_, T> {
     fn concern(&self, number: usize) -> Concern {
         let way = self.ways[number];
         Concern::Store {
-            scheme: self.scheme,
+            scheme: self.view.scheme,
             address: self.address,
             way,
-            is_root: self.roots.has(way.root),
+            is_root: self.view.roots.has(way.root),
         }
     }
 
     #[inline(always)]
     fn apply(&mut self, item: &mut Held) -> bool {
-        if !is_touched(self.scheme, self.roots, self.address, self.ways, item) {
+        let view = self.view;
+        if !is_touched(view.scheme, view.roots, self.address, self.ways, item) {
             return false;
         }
-        let space = satp_in(self.satps, item.hart);
-        if is_live_in(self.tables, self.scheme, space, item.root, &item.entry) {
+        let space = satp_in(view.satps, item.hart);
+        if is_live_in(view.tables, view.scheme, space, item.root, &item.entry) {
             item.state = State::Gone;
             return true;
         }
-        let current = is_current_again(
-            self.tables,
-            self.scheme,
-            self.roots.as_slice(),
-            &mut self.last,
-            item.root,
-            &item.entry,
-        );
-        item.state.recheck(current, self.count);
+        let current = is_current_again(view, &mut self.last, item.root, &item.entry);
+        item.state.recheck(current, view.count);
         false
     }
 }
@@ -148,27 +172,16 @@ impl<T: Tables> Effect for SettleTouched<'_, T> {
 /// filled again.
 pub(crate) fn settle_touched<T: Tables>(
     held: &mut TranslationIndex,
-    tables: &T,
-    scheme: Scheme,
-    satps: &[Option<Space>],
-    roots: &Roots,
+    view: &View<'_, T>,
     address: u64,
     ways: &[Way],
-    count: u64,
 )
-    ensures { held.new ≡ map (λ i. settled_if (is_touched scheme roots.now
-        (index_of address) ways.now (translation_of i)) (is_current_by (is_mapped scheme
-        (T.words tables.now)) roots.now (translation_of i)) count i) (filter (is_kept_after scheme
-        (T.words tables.now) satps.now roots.now (index_of address) ways.now) held.old) }
+    ensures { held.new ≡ all_settled (view_of view.now) (index_of address) ways.now held.old }
 {
     held.apply(&mut SettleTouched {
-        tables,
-        scheme,
-        satps,
-        roots,
+        view,
         address,
         ways,
-        count,
         last: None,
     });
 }

@@ -1,25 +1,20 @@
 //! Words of a root of whose leaves nothing is to be remembered.
 
 ghost use Rattle.std.specs.Prelude.{ℕ, ◌≡◌, IsTrue, List, None, false, get_or};
-ghost use Rattle.tlb.specs.declared.store.Entry.{Entry as EntryOf};
-ghost use Rattle.walk.specs.Maps.{page_number};
-ghost use Rattle.watch.specs.Trace.{has_root, index_of};
+ghost use Rattle.watch.specs.Trace.{has_root};
 ghost use Rattle.watch_engine.specs.declared.held.LastLive.{LastLive as LastLiveOf};
-ghost use Rattle.watch_engine.specs.declared.left.PastFence.{PastFence as PastFenceOf};
 ghost use Rattle.watch_engine.specs.Left.{EachLeft};
 ghost use Rattle.watch_engine.specs.Seen.{AreAdded};
 ghost use Rattle.watch_engine.specs.Shared.{HasWordOf};
 ghost use Rattle.watch_engine.specs.Unseen.{FillsBelow};
-ghost use Rattle.watch_tables.specs.Through.{Passes};
-ghost use Rattle.watch_tables.specs.Ways.{AreWays};
+ghost use Rattle.watch_engine.specs.View.{AreWaysTo, PassesAt, view_of};
 
 use crate::left::Left;
-use crate::left_spaces::LeftSpaces;
 use crate::satps::{harts_of_root, satp_in};
 use crate::shared::has_word_of;
 use crate::tables::Tables;
 use crate::touched::index_of;
-use pte::Scheme;
+use crate::view::View;
 use watch::Space;
 use watch_tables::Way;
 
@@ -38,18 +33,12 @@ fn is_in_no_satp(satps: &[Option<Space>], root: u64) -> bool
 }
 
 // Each hart that left one of these spaces is in a space with the word of the root.
-fn have_word_of<T: Tables>(
-    tables: &T,
-    satps: &[Option<Space>],
-    left: &[Left],
-    root: u64,
-    index: u16,
-) -> bool
-    ensures { IsTrue result → EachLeft (λ l. HasWordOf (T.words tables.now) root index
-        (get_or satps.now l.hart None)) left.now }
+fn have_word_of<T: Tables>(view: &View<'_, T>, left: &[Left], root: u64, index: u16) -> bool
+    ensures { IsTrue result → EachLeft (λ l. HasWordOf (view_of view.now) root index
+        (get_or view.now.satps.now l.hart None)) left.now }
 {
     for space in left {
-        if !has_word_of(tables, satp_in(satps, space.hart), root, index) {
+        if !has_word_of(view, satp_in(view.satps, space.hart), root, index) {
             return false;
         }
     }
@@ -57,24 +46,17 @@ fn have_word_of<T: Tables>(
 }
 
 // Each hart that left one of these spaces can fill each leaf below the word of the root.
-fn fill_below<T: Tables>(
-    tables: &T,
-    scheme: Scheme,
-    satps: &[Option<Space>],
-    left: &[Left],
-    root: u64,
-    index: u16,
-) -> bool
-    ensures { IsTrue result → EachLeft (FillsBelow scheme (T.words tables.now) satps.now root index)
+fn fill_below<T: Tables>(view: &View<'_, T>, left: &[Left], root: u64, index: u16) -> bool
+    ensures { IsTrue result → EachLeft (FillsBelow (view_of view.now) root index)
         left.now }
 {
     if left.is_empty() {
         return true;
     }
-    if !have_word_of(tables, satps, left, root, index) {
+    if !have_word_of(view, left, root, index) {
         return false;
     }
-    tables.are_leaves_global(scheme, root, index)
+    view.tables.are_leaves_global(view.scheme, root, index)
 }
 
 /// Nothing is to be remembered of the leaves whose paths pass through the word at an address, to
@@ -82,30 +64,25 @@ fn fill_below<T: Tables>(
 /// satp, and those that left it can fill the leaves. Where it is not known, and where it was left
 /// fewer or more times than these, the answer is false.
 pub(crate) fn adds_nothing<T: Tables>(
-    tables: &T,
-    scheme: Scheme,
-    satps: &[Option<Space>],
-    left: &LeftSpaces,
+    view: &View<'_, T>,
     least: usize,
     most: usize,
     address: u64,
     ways: &[Way],
 ) -> bool
-    requires { AreWays scheme (T.words tables.now) (T.since tables.now) (page_number address) ways.now }
-    ensures { IsTrue result → (drops : List PastFenceOf) (count : ℕ) (seen : List LastLiveOf)
-        → AreAdded scheme (T.words tables.now) (T.since tables.now) satps.now left.now drops count
-        (λ (root : ℕ) (e : EntryOf). Passes scheme (T.words tables.now) root (page_number address)
-        (index_of address) e.page) seen seen }
+    requires { AreWaysTo (view_of view.now) address ways.now }
+    ensures { IsTrue result → (seen : List LastLiveOf)
+        → AreAdded (view_of view.now) (PassesAt (view_of view.now) address) seen seen }
 {
     let [way] = ways else {
         return false;
     };
-    if !is_in_no_satp(satps, way.root) {
+    if !is_in_no_satp(view.satps, way.root) {
         return false;
     }
-    let spaces = left.of_root(way.root);
+    let spaces = view.left.of_root(way.root);
     if spaces.len() < least || spaces.len() > most {
         return false;
     }
-    fill_below(tables, scheme, satps, spaces, way.root, index_of(address))
+    fill_below(view, spaces, way.root, index_of(address))
 }

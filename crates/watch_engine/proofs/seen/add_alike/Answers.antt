@@ -6,6 +6,7 @@ use Rattle.watch_engine.specs.declared.held.LastLive.{LastLive}
 use Rattle.watch_engine.specs.Filling.{AreAnswers}
 use Rattle.watch_engine.specs.Seen.{with_leaves}
 use Rattle.watch_engine.proofs.Filling.{alike_entry, none_asked, same_default}
+use Rattle.watch_engine.specs.View.{view_of}
 use Rattle.watch_engine.proofs.seen.add_alike.Goals as goal
 
 pub loop-place-init : goal.loop-place-init
@@ -17,7 +18,7 @@ loop-place-init g c =
       omega arith,
       c.requires.start,
       λ d. ap (λ (l : RootLeaf). l.entry) (is d),
-      none_asked c.args.scheme (g.T.Tables.words c.args.tables.now) c.args.satps.now 256 first.entry global,
+      none_asked (view_of c.args.view.now) 256 first.entry global,
       refl,
     )
 
@@ -32,13 +33,13 @@ loop-place-preserved g c =
     let same : leaf.entry ≡ first.entry = ap (λ (l : RootLeaf). l.entry) c.index-leaves-at.is ∙ c.loop-place.invariant.2 leaf in
     let alike : first.entry ≡ next.entry = alike_entry first next (sym c.are_alike.ensures ∙ c.if-not-are_alike.false) in
     let with : List RootLeaf → List LastLive → List LastLive =
-    with_leaves c.args.scheme (g.T.Tables.words c.args.tables.now) c.args.count c.args.satps.now c.args.left.now c.args.drops.now.fences.items in
+    with_leaves (view_of c.args.view.now) in
     let rest : drop at leaves ≡ leaf ∷ drop (at + 1) leaves =
     drop_more leaves at leaf (omega arith) ∙ ap (λ (l : RootLeaf). l ∷ drop (at + 1) leaves) (sym c.index-leaves-at.is) in (
       omega arith,
       within,
       λ d. ap (λ (l : RootLeaf). l.entry) (same_default leaves (at + 1) d next within ∙ sym c.index-leaves-at-else-at-leaves.is) ∙ sym alike,
-      subst (λ (e : Entry). AreAnswers c.args.scheme (g.T.Tables.words c.args.tables.now) c.args.satps.now e c.add_one.new.answers) same c.in_ok-place.ensures.answers,
+      subst (λ (e : Entry). AreAnswers (view_of c.args.view.now) e c.add_one.new.answers) same c.in_ok-place.ensures.answers,
       ap (with (drop (at + 1) leaves)) c.in_ok-place.ensures.seen
           ∙ (ap (λ (ls : List RootLeaf). with ls c.loop-place.seen.items) (sym rest) ∙ c.loop-place.invariant.4),
     )

@@ -1,17 +1,14 @@
-use Rattle.std.proofs.Common.{◌≡◌, ◌∙◌, sym, ap, subst, List, Option, map, ◌+◌, ◌∷◌, [], ℕ, Bool}
-use Rattle.std.specs.Prelude.{cond}
+use Rattle.std.proofs.Common.{◌≡◌, ◌∙◌, sym, ap, subst, inl, inr, List, map, ◌+◌, ◌∷◌, [], ℕ, Bool}
 use Rattle.std.specs.List.{list_all}
 use Rattle.walk.specs.Leads.{Tables}
 use Rattle.watch.specs.declared.trace.Record.TheVariants as records
 use Rattle.watch.specs.declared.trace.Verdict.TheVariants.{Reuse}
-use Rattle.watch.specs.declared.trace.Space.{Space}
 use Rattle.watch.specs.Computed.{is_mapped}
 use Rattle.watch_tables.specs.Words.{AreFilled}
 use Rattle.watch_engine.specs.declared.cause.Cause.TheVariants.{Out}
 use Rattle.watch_engine.specs.declared.held.Held.{Held}
 use Rattle.watch_engine.specs.declared.held.LastLive.{LastLive}
 use Rattle.watch_engine.specs.declared.left.Left.{Left}
-use Rattle.watch_engine.specs.declared.left.PastFence.{PastFence}
 use Rattle.watch_engine.specs.Held.{is_current_by, is_exposed_by, marked_if, remembered_all, settled_unless_stale, stays as root_stays, translation_of, without_frames}
 use Rattle.watch_engine.specs.KeptWays.{AreKept}
 use Rattle.watch_engine.specs.Warnings.{AreWarnings, joined}
@@ -22,21 +19,19 @@ use Rattle.watch_engine.proofs.EmptyFrames.{kept-over}
 use Rattle.watch_engine.proofs.Judging.{are_warnings, out_causes}
 use Rattle.watch_engine.proofs.Marking.{still_same_out}
 use Rattle.watch_engine.proofs.Standings.{on_err, some_remembered}
+use Rattle.watch_engine.specs.View.{View}
+use Rattle.watch_engine.specs.Watching.{view_in}
 use Rattle.watch_engine.proofs.engine.Watch.give_out.Goals as goal
 
 pub returns-in_err-remember_all-clause-err : goal.returns-in_err-remember_all-clause-err
 returns-in_err-remember_all-clause-err g c = λ trace at.
     let watch = c.args.self.now in
-    let scheme = watch.scheme in
-    let words : Tables = g.T.Tables.words watch.tables in
-    let since = g.T.Tables.since watch.tables in
+    let v : View = view_in g.T.Tables.words g.T.Tables.since watch in
     let seen : List LastLive = c.as_slice-2.result.now in
-    let left : List Left = watch.left in
-    let drops : List PastFence = watch.drops.fences.items in
     let addresses : List ℕ = c.in_ok-addresses.addresses.items in
-    let all = subst (SeenIn scheme words since watch.satps.spaces.items left drops watch.count addresses) (sym c.as_slice-2.ensures.value)
-    (subst (λ (many : List ℕ). SeenIn scheme words since watch.satps.spaces.items left drops watch.count many c.add_seen_in.new.seen.items) c.as_slice.ensures.value
-    (subst (λ (ss : List (Option Space)). SeenIn scheme words since ss left drops watch.count c.as_slice.result.now c.add_seen_in.new.seen.items) c.spaces.ensures.value c.in_ok-add_seen_in.ensures)) in
+    let all = subst (SeenIn v addresses) (sym c.as_slice-2.ensures.value)
+    (subst (λ (many : List ℕ). SeenIn v many c.add_seen_in.new.seen.items) c.as_slice.ensures.value
+    (subst (λ (w : View). SeenIn w c.as_slice.result.now c.add_seen_in.new.seen.items) c.view.ensures c.in_ok-add_seen_in.ensures)) in
     let e = c.in_err-remember_all.ensures.err in
     on_err _ _ (some_remembered at seen all.each e.0 _ e.1)
 
@@ -51,32 +46,29 @@ returns-clause-warnings g c = λ hart trace at.
 pub returns-clause-ok : goal.returns-clause-ok
 returns-clause-ok g c = λ hart trace at.
     let watch = c.args.self.now in
-    let scheme = watch.scheme in
-    let words : Tables = g.T.Tables.words watch.tables in
-    let since = g.T.Tables.since watch.tables in
+    let v : View = view_in g.T.Tables.words g.T.Tables.since watch in
     let seen : List LastLive = c.as_slice-2.result.now in
-    let left : List Left = watch.left in
-    let drops : List PastFence = watch.drops.fences.items in
     let addresses : List ℕ = c.in_ok-addresses.addresses.items in
-    let all = subst (SeenIn scheme words since watch.satps.spaces.items left drops watch.count addresses) (sym c.as_slice-2.ensures.value)
-    (subst (λ (many : List ℕ). SeenIn scheme words since watch.satps.spaces.items left drops watch.count many c.add_seen_in.new.seen.items) c.as_slice.ensures.value
-    (subst (λ (ss : List (Option Space)). SeenIn scheme words since ss left drops watch.count c.as_slice.result.now c.add_seen_in.new.seen.items) c.spaces.ensures.value c.in_ok-add_seen_in.ensures)) in
+    let all = subst (SeenIn v addresses) (sym c.as_slice-2.ensures.value)
+    (subst (λ (many : List ℕ). SeenIn v many c.add_seen_in.new.seen.items) c.as_slice.ensures.value
+    (subst (λ (w : View). SeenIn w c.as_slice.result.now c.add_seen_in.new.seen.items) c.view.ensures c.in_ok-add_seen_in.ensures)) in
     let held : List Held = watch.held in
     let frames = c.args.frames in
     let new : Tables = g.T.Tables.words c.clear.new.self in
     let these : List ℕ = c.drop_given-keeps.new.roots in
-    let these_are : these ≡ without_frames frames watch.satps.spaces.items watch.roots = c.drop_given-keeps.ensures.roots ∙ (λ j. without_frames frames (c.spaces-2.ensures.value j) watch.roots) in
+    let these_are : these ≡ without_frames frames watch.satps.spaces.items watch.roots = c.drop_given-keeps.ensures.roots ∙ (λ j. without_frames frames (c.spaces.ensures.value j) watch.roots) in
     let keeps : Bool = c.drop_given-keeps.result in
-    let keeps_is : keeps ≡ list_all (root_stays frames watch.satps.spaces.items) watch.roots = c.drop_given-keeps.ensures.all ∙ (λ j. list_all (root_stays frames (c.spaces-2.ensures.value j)) watch.roots) in
+    let keeps_is : keeps ≡ list_all (root_stays frames watch.satps.spaces.items) watch.roots = c.drop_given-keeps.ensures.all ∙ (λ j. list_all (root_stays frames (c.spaces.ensures.value j)) watch.roots) in
     let mark : Held → Held = marked_if Reuse (is_exposed_by frames) in
-    let settle : List ℕ → Held → Held = λ rs i. settled_unless_stale (is_current_by (is_mapped scheme new) rs (translation_of i)) (watch.count + 1) i in
+    let settle : Held → Held = λ i. settled_unless_stale (is_current_by (is_mapped v.scheme new) these (translation_of i)) (watch.count + 1) i in
     let marks : c.mark_given.new.held ≡ map mark (remembered_all seen held) = c.mark_given.ensures ∙ ap (map mark) c.in_ok-remember_all.ensures.ok in
-    let changed : Bool = c.may_differ.result in
-    subst (λ (ls : List Left). Stands scheme (records.GiveOut hart frames ∷ trace) new (g.T.Tables.since c.clear.new.self) watch.satps.spaces.items these c.settle_taken.new.held ls drops watch.fences.items watch.claims.items (watch.count + 1))
+    subst (λ (ls : List Left). Stands (records.GiveOut hart frames ∷ trace) (record v { words = new; since = g.T.Tables.since c.clear.new.self; roots = these; left = ls; count = watch.count + 1 }) c.settle_taken.new.held watch.fences.items watch.claims.items)
     (sym (c.drop_given-keeps.ensures.left ∙ all_rooted at frames these these_are keeps keeps_is))
-    (frames_stand at hart frames new (g.T.Tables.since c.clear.new.self) (c.clear.ensures.words hart) c.clear.ensures.others addresses c.in_ok-addresses.ensures these these_are changed
-    (λ same. (sym c.as_slice-5.ensures.value ∙ c.may_differ.ensures.words same, sym keeps_is ∙ c.may_differ.ensures.roots same)) seen all _
-    (c.settle_taken.ensures ∙ (λ j. cond changed (map (settle (c.as_slice-6.ensures j)) (marks j)) (marks j))))
+    (frames_stand at hart frames new (g.T.Tables.since c.clear.new.self) (c.clear.ensures.words hart) c.clear.ensures.others addresses c.in_ok-addresses.ensures these these_are seen all _
+    (elim c.settle_taken.ensures [
+      | inl is ↦ inl (is ∙ ap (map settle) marks)
+      | inr none ↦ inr (sym c.as_slice-5.ensures.value ∙ none.0, sym keeps_is ∙ none.1, none.2 ∙ marks)
+    ]))
 
 pub mark_given-requires : goal.mark_given-requires
 mark_given-requires g c = λ none.
@@ -87,8 +79,8 @@ mark_given-requires g c = λ none.
     let empty : joined (Out frames) held [] ≡ [] = sym (c.in_ok-given.ensures) ∙ (sym c.as_slice-3.ensures.value ∙ none) in
     ap (map f) c.in_ok-remember_all.ensures.ok ∙ (still_same_out frames seen held empty ∙ sym c.in_ok-remember_all.ensures.ok)
 
-pub invariant_of-self-2 : goal.invariant_of-self-2
-invariant_of-self-2 g c =
+pub invariant_of-self-3 : goal.invariant_of-self-3
+invariant_of-self-3 g c =
     let watch = c.args.self.now in
     let scheme = watch.scheme in
     let words : Tables = g.T.Tables.words watch.tables in
