@@ -1,14 +1,14 @@
 //! What is remembered of leaves before a word on their paths changes.
 
-ghost use Rattle.std.specs.Prelude.{◌≡◌, ◌<◌, [], Contains, IfOk, IsTrue, OnOk, get_or, length, true, ◌≤◌, ◌++◌};
+ghost use Rattle.std.specs.Prelude.{◌≡◌, ◌<◌, ◌≤◌, ◌++◌, [], Contains, IfOk, IsTrue, OnOk, get_or, length, true};
 ghost use Rattle.watch.specs.Holding.{HasLeaf};
-ghost use Rattle.watch_engine.specs.Filling.{AreAnswers};
-ghost use Rattle.watch_engine.specs.Seen.{AreAdded, AreAddedUpTo, AreSeen, PassesAny, with_leaf, with_leaves, is_kept, kept_for, last_of, live_for, with_kept, with_live};
-ghost use Rattle.watch_engine.specs.View.{AreWaysTo, PassesAt, view_of, is_live_for};
 ghost use Rattle.watch_tables.specs.declared.leaf.RootLeaf.{RootLeaf as RootLeafOf};
+ghost use Rattle.watch_engine.specs.Filling.{AreAnswers};
 ghost use Rattle.watch_engine.specs.Held.{last_translation};
 ghost use Rattle.watch_engine.specs.Satps.{AreAllOf};
+ghost use Rattle.watch_engine.specs.Seen.{AreAdded, AreAddedUpTo, AreSeen, PassesAny, is_kept, kept_for, last_of, live_for, with_kept, with_leaf, with_leaves, with_live};
 ghost use Rattle.watch_engine.specs.Shared.{are_all_live};
+ghost use Rattle.watch_engine.specs.View.{AreWaysTo, PassesAt, is_live_for, view_of};
 
 use crate::held::LastLive;
 use crate::left::Left;
