@@ -27,9 +27,6 @@ one-translation e a b is =
     (λ j. record { root = own (is j) b.root; entry = record e { asid = own (is j) b.asid } }) in
     left ∙ sym right
 
-pub alike_global : (leaf other : RootLeaf) → are_alike leaf other ≡ true → leaf.entry.global ≡ true
-alike_global leaf other h = (and_parts leaf.entry.global (is_same_entry leaf.entry other.entry) h).0
-
 pub alike_entry : (leaf other : RootLeaf) → are_alike leaf other ≡ true → leaf.entry ≡ other.entry
 alike_entry leaf other h = same_entry leaf.entry other.entry (and_parts leaf.entry.global (is_same_entry leaf.entry other.entry) h).1
 
@@ -39,9 +36,6 @@ same_default (f ∷ leaves) zero d e within = refl
 same_default (f ∷ leaves) (suc k) d e within = same_default leaves k d e (omega arith)
 
 module _ (v : View) where
-  pub none_kept : (e : Entry) → AreAnswers v e []
-  none_kept e = record { global = λ hart within. absurd (omega arith); each = λ hart space. tt }
-
   unasked : (n hart : ℕ) → get_or (replicate n Unasked) hart Unasked ≡ Unasked
   unasked n hart =
       elim (cases_lt hart n) [

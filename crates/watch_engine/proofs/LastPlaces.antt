@@ -163,14 +163,6 @@ link_more n keys links heads place b h links_too many within is was =
     let moved = subst (λ (m : ℕ). AreChained n (take place keys ++ get_or keys place 0 ∷ []) (set links m (get_or heads b 0)) (set heads b (m + 1))) size more in
     subst (λ all. AreChained n all (set links place (get_or heads b 0)) (set heads b (place + 1))) (sym (take_more keys place 0 h)) moved
 
--- no key has no links, and empty chains
-pub none_chained : (n : ℕ) (links : List ℕ) → AreChained n [] links (replicate n 0)
-none_chained n links =
-    record {
-      older = λ place h. absurd (omega arith);
-      newest = λ bucket h. get_or-replicate n bucket 0 0 h;
-    }
-
 -- the walk down a chain goes on by its links
 pub next : (keys links heads : List ℕ) → AreChains keys links heads → (at older : ℕ) → 0 < at → at ≤ length keys
     → older ≡ get_or links (at - 1) 0 → IsNext (length heads) keys at older

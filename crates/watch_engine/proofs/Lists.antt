@@ -164,9 +164,6 @@ pub record KeepsKey (f : Held → Held) : Type 0 where
 pub state_keeps : (g : Held → State) → KeepsKey (λ i. with_state (g i) i)
 state_keeps g = record { hart = λ i. refl; root = λ i. refl; entry = λ i. refl; last = λ i. refl }
 
-pub key_translation : (f : Held → Held) → KeepsKey f → (i : Held) → translation_of (f i) ≡ translation_of i
-key_translation f k i = λ j. record { root = k.root i j; entry = k.entry i j }
-
 pub knows_map : (f : Held → Held) → KeepsKey f → (hart : ℕ) (x : Translation) (n : ℕ) (held : List Held) → knows hart x n (map f held) ≡ knows hart x n held
 knows_map f k hart x n [] = refl
 knows_map f k hart x n (i ∷ held) =

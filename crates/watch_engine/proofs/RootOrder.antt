@@ -52,13 +52,6 @@ inserted root roots place test = sym (list_any-IsPermutation test (root ∷ root
 pub new_entered : (space : Space) (old new : List ℕ) → IsWith space.root old new → AreEntered (Some space) old new
 new_entered space old new is root = is (λ r. r == root) ∙ either (space.root == root) (list_any (λ r. r == root) old)
 
-pub known_entered : (space : Space) (roots : List ℕ) → list_any (λ r. r == space.root) roots ≡ true → AreEntered (Some space) roots roots
-known_entered space roots known root =
-    elim (cases_eq space.root root) [
-      | inl same ↦ subst (λ n. list_any (λ r. r == n) roots ≡ true) same known ∙ sym (ap (λ b. b || list_any (λ r. r == root) roots) (eq-eqb _ _ same))
-      | inr other ↦ sym (ap (λ b. b || list_any (λ r. r == root) roots) (ne_eqb _ _ other))
-    ]
-
 -- all from a place on, and all before it, pass a test
 pub all_from : (p : ℕ → Bool) (xs : List ℕ) (n : ℕ) → ((k d : ℕ) → n ≤ k → k < length xs → p (get_or xs k d) ≡ true) → list_all p (drop n xs) ≡ true
 all_from p [] zero f = refl

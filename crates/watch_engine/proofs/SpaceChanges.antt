@@ -116,9 +116,6 @@ module _ {trace : Trace} {v : View} {held : List Held} {fences : List OpenFence}
   other_satps these small same =
       record { memory = at.memory; ages = at.ages; harts = small; satp = λ hart. same hart ∙ at.satp hart; spaces = at.spaces; leaving = at.leaving; are = at.are; fence = at.fence; claim = at.claim; records = at.records }
 
-  pub other_roots : (these : List ℕ) → these ≡ v.roots → Stands trace (record v { roots = these }) held fences claims
-  other_roots these is = record { memory = at.memory; ages = at.ages; harts = at.harts; satp = at.satp; spaces = subst (AreRoots trace) (sym is) at.spaces; leaving = at.leaving; are = at.are; fence = at.fence; claim = at.claim; records = at.records }
-
 -- one test more
 or-more : (g t a b : Bool) → ((not g && t) || (g && (a || b))) ≡ (((not g && t) || (g && a)) || (g && b))
 or-more true t true b = refl

@@ -16,14 +16,11 @@ use crate::live::{Answer, answer_of, is_live_in, keep_answer};
 use crate::satps::{Harts, harts_of_root, satp_in};
 use crate::shared::{HARTS, answers_below, are_alike, are_all_live, are_beside, begins_beside};
 use crate::tables::Tables;
-use crate::unseen::{FEW_SPACES, MOST_SPACES, adds_nothing};
+use crate::unseen::adds_nothing;
 use crate::view::View;
 use std::alloc::{AllocError, Global};
 use watch::Space;
 use watch_tables::{RootLeaf, Way};
-
-// For so few leaves no more than a few spaces are asked.
-const FEW_LEAVES: usize = 32;
 
 // Adds the leaf, if the hart can fill it now.
 fn add_live(
@@ -361,8 +358,7 @@ pub(crate) fn add_seen<T: Tables>(
     Ok(())
 }
 
-// The same, where often nothing is to be added. Few spaces are asked for that before any leaf is
-// listed, and many only where there are many leaves.
+// The same, where often nothing is to be added: that is asked before any leaf is listed.
 fn add_seen_if_any<T: Tables>(
     alloc: Global,
     view: &View<'_, T>,
@@ -374,17 +370,10 @@ fn add_seen_if_any<T: Tables>(
     ensures { OnOk result (AreAdded (view_of view.now) (PassesAt (view_of view.now) address)
         seen.old.items seen.new.items) }
 {
-    if adds_nothing(view, 0, FEW_SPACES, address, ways) {
+    if adds_nothing(view, address, ways) {
         return Ok(());
     }
-    let leaves = view
-        .tables
-        .leaves_through(alloc, view.scheme, address, ways)?;
-    if leaves.len() > FEW_LEAVES && adds_nothing(view, FEW_SPACES + 1, MOST_SPACES, address, ways) {
-        return Ok(());
-    }
-    add_leaves(seen, view, leaves.as_slice())?;
-    Ok(())
+    add_seen(alloc, view, address, ways, seen)
 }
 
 /// Adds what harts may hold of the leaves whose paths pass through the words at the addresses. The caller

@@ -18,11 +18,8 @@ use crate::view::View;
 use watch::Space;
 use watch_tables::Way;
 
-/// So many spaces that were left are few: these are asked before any leaf is listed.
-pub(crate) const FEW_SPACES: usize = 16;
-
-/// Of more spaces that were left it is not asked whether who left them can fill a leaf.
-pub(crate) const MOST_SPACES: usize = 256;
+/// Of more spaces that were left it is not asked whether who left them can fill the leaves.
+const FEW_SPACES: usize = 16;
 
 // No hart has the root in its satp.
 fn is_in_no_satp(satps: &[Option<Space>], root: u64) -> bool
@@ -61,15 +58,9 @@ fn fill_below<T: Tables>(view: &View<'_, T>, left: &[Left], root: u64, index: u1
 
 /// Nothing is to be remembered of the leaves whose paths pass through the word at an address, to
 /// whose table these are the ways: it is a root to which no pointer leads, no hart has it in its
-/// satp, and those that left it can fill the leaves. Where it is not known, and where it was left
-/// fewer or more times than these, the answer is false.
-pub(crate) fn adds_nothing<T: Tables>(
-    view: &View<'_, T>,
-    least: usize,
-    most: usize,
-    address: u64,
-    ways: &[Way],
-) -> bool
+/// satp, and those that left it can fill the leaves. Where it is not known, or where it was left more
+/// often than `FEW_SPACES`, the answer is false.
+pub(crate) fn adds_nothing<T: Tables>(view: &View<'_, T>, address: u64, ways: &[Way]) -> bool
     requires { AreWaysTo (view_of view.now) address ways.now }
     ensures { IsTrue result → (seen : List LastLiveOf)
         → AreAdded (view_of view.now) (PassesAt (view_of view.now) address) seen seen }
@@ -81,7 +72,7 @@ pub(crate) fn adds_nothing<T: Tables>(
         return false;
     }
     let spaces = view.left.of_root(way.root);
-    if spaces.len() < least || spaces.len() > most {
+    if spaces.len() > FEW_SPACES {
         return false;
     }
     fill_below(view, spaces, way.root, index_of(address))
