@@ -1,8 +1,8 @@
 -- The last place at which a list has what passes a test, and chains of such places.
-use Rattle.std.proofs.Common.{◌≡◌, ℕ, ◌<◌, ◌≤◌, ◌+◌, ◌-◌, Bool, true, false, List, [], ◌∷◌, ◌++◌, length, take, get_or, set, replicate, ap, sym, subst, ◌∙◌, refl, arith, zero, suc, inl, inr, length-append}
+use Rattle.std.proofs.Common.{◌≡◌, ℕ, ◌<◌, ◌≤◌, ◌+◌, ◌-◌, Bool, true, false, List, [], ◌∷◌, ◌++◌, length, take, get_or, set, ap, sym, subst, ◌∙◌, refl, arith, zero, suc, inl, inr, length-append}
 use Rattle.std.specs.Prelude.{◌==◌, if◌then◌else◌}
 use Rattle.std.proofs.lemmas.Bool.{cases_Bool, eq-eqb, eqb-true, eqb-false, false_from_ne_true, true≢false}
-use Rattle.std.proofs.lemmas.List.{take_more, length-take-le, get_or-replicate, get_or-set_same, get_or-set_other, take-append-le}
+use Rattle.std.proofs.lemmas.List.{take_more, length-take-le, get_or-set_same, get_or-set_other, take-append-le}
 use Rattle.std.proofs.Math.Seq.{get_or-append_seam, take-append_seam, take-length, take-suc}
 use Rattle.std.proofs.Math.ListN.{get_or-append}
 use Rattle.watch_engine.specs.Chains.{AreChained, AreChains, IsFirst, IsNext, bucket_of, is_in, last_from, last_place, last_where}
