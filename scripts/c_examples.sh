@@ -5,7 +5,7 @@
 #
 #     scripts/c_examples.sh
 #
-# Needs rt, a C compiler ($CC, else cc) with a linker that knows --wrap, bash and coreutils; for what it skips else make, pkg-config, a compiler of C++ and one for
+# Needs rt, a C compiler ($CC, else cc) with a linker that knows --wrap, bash, python3 and coreutils; for what it skips else addr2line, make, pkg-config, a compiler of C++ and one for
 # RISC-V ($RISCV_CC, else of the packages gcc-riscv64-unknown-elf or gcc-riscv64-linux-gnu); the toolchain's liblibc_c.a (rattle_alloc and the like, over malloc)
 # is found by `rt doc`. The last line is `N passed, M failed`. The gate runs no C, so this is no part of it.
 set -u
@@ -56,21 +56,18 @@ judge_trace() {
     fi
 }
 
-# Whether scripts/notes.py names the calls of a program that are in its trace: those of headers by who calls them.
+# Whether scripts/notes.py names the calls of a program that are in its trace, those of headers by who calls them, with this addr2line.
 judge_notes() {
-    if ! command -v "${ADDR2LINE:-addr2line}" >/dev/null; then
-        echo 'skipped: scripts/notes.py, since there is no addr2line'
-        return
-    fi
-    mkdir "$own/include"
-    cp "$top/examples/watch/trace.h" "$own/include"
-    cat >"$own/include/clear.h" <<'END'
+    local folder="$own/built (here)/include"
+    mkdir -p "$folder/include"
+    cp "$top/examples/watch/trace.h" "$folder/include"
+    cat >"$folder/include/clear.h" <<'END'
 static inline __attribute__((always_inline)) void clear(uint64_t address)
 {
     trace_store(0, address, 0);
 }
 END
-    cat >"$own/notes.c" <<'END'
+    cat >"$folder/notes.c" <<'END'
 #include <stdio.h>
 #define TRACE_PUTCHAR(c) putchar(c)
 #include "include/trace.h"
@@ -94,12 +91,12 @@ w 0 80002008 0 @unmap notes.c:7
 f 0 - - @unmap notes.c:8
 f 0 - - @1
 END
-    if ${CC:-cc} -g -O2 -no-pie -std=gnu11 "$own/notes.c" -o "$own/notes" && "$own/notes" >"$own/notes.trace" &&
-        "$top/scripts/notes.py" "$own/notes" "$own/notes.trace" | grep -v '^# no record @[0-9a-f]*$' | cmp - "$own/notes.wanted" &&
-        ! "$top/scripts/notes.py" "$own/notes.c" "$own/notes.trace" 2>/dev/null; then
+    if ${CC:-cc} -g -O2 -no-pie -std=gnu11 "$folder/notes.c" -o "$own/notes" && "$own/notes" >"$own/notes.trace" &&
+        ADDR2LINE=$1 "$top/scripts/notes.py" "$own/notes" "$own/notes.trace" | grep -v '^# no record @[0-9a-f]*$' | cmp - "$own/notes.wanted" &&
+        ! ADDR2LINE=$1 "$top/scripts/notes.py" "$folder/notes.c" "$own/notes.trace" 2>/dev/null; then
         passed=$((passed + 1))
     else
-        echo 'FAILED notes.py: other names'
+        echo "FAILED notes.py: other names by $1"
         failed=$((failed + 1))
     fi
 }
@@ -190,7 +187,9 @@ judge_emulator() {
 
 judge_trace _output
 judge_trace _ring -DTRACE_RING=100
-judge_notes
+for name in addr2line llvm-addr2line; do
+    if command -v "$name" >/dev/null; then judge_notes "$name"; else echo "skipped: scripts/notes.py with $name, which is not there"; fi
+done
 judge access_path
 judge superpage_shootdown
 judge tlb_of_1024

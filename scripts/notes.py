@@ -3,8 +3,11 @@
 
 A note ` @ADDRESS` or ` #ADDRESS` of a record, as examples/watch/trace.h writes it, is a return address in hexadecimal digits. PROGRAM is
 the kernel that wrote it, with debug information (of Linux vmlinux). In the place of the address stands `FUNCTION FILE:LINE`, of the call that
-returns there. Of inlined calls it is the innermost whose file lies neither in asm/ nor in include/: what lies there is called everywhere.
-An address that the program does not know stays, and so does every other line. TRACE may be `-`, standard input.
+returns there. Of inlined calls it is the innermost whose file lies neither in asm/ nor in include/, since what lies there is called
+everywhere; if all lie there, the outermost. The folder that all files of the notes have in common is left out. An address that the program
+does not know stays, and so does every other line. TRACE may be `-`, standard input.
+
+The program has to run where it is linked: Linux with `nokaslr`, and no PIE. Else an address may get the name of another function.
 
 Needs $ADDR2LINE, else llvm-addr2line or addr2line, which knows the program's kind; it is called once.
 """
@@ -13,6 +16,7 @@ import os, re, shutil, subprocess, sys
 NOTE = re.compile(rb"^([^#m\n][^@#\n]* [@#])([0-9a-f]{1,16})\n?$")
 WITHIN_CALL = 2  # bytes: the shortest call before a return address
 HEADER = re.compile(r"(^|/)(asm|include)/")
+DISCRIMINATOR = re.compile(r" \(discriminator \d+\)$")  # of GNU's addr2line, behind a line
 
 
 def addr2line():
@@ -25,17 +29,18 @@ def addr2line():
 def frames_of(program, addresses):
     """For each address the functions and places of the call before it, the innermost first."""
     asked = "".join(f"0x{address - WITHIN_CALL:x}\n" for address in addresses)
+    command = [addr2line(), "-e", program, "-a", "-f", "-i"]
     try:
-        answer = subprocess.run([addr2line(), "-e", program, "-a", "-f", "-i"], input=asked, capture_output=True, text=True, check=True).stdout
+        done = subprocess.run(command, input=asked, capture_output=True, check=True, encoding="utf-8", errors="surrogateescape")
     except (OSError, subprocess.CalledProcessError) as error:
         sys.exit(f"notes.py: {getattr(error, 'stderr', None) or error}".rstrip())
     found, frames = {}, []
-    lines = iter(answer.split("\n"))
+    lines = iter(done.stdout.split("\n"))
     for line in lines:
         if line.startswith("0x"):
             frames = found.setdefault(int(line, 16) + WITHIN_CALL, [])
         elif line:
-            frames.append((line.split(".")[0], next(lines).split(" (")[0]))
+            frames.append((line.split(".")[0], DISCRIMINATOR.sub("", next(lines, "?"))))
     return found
 
 
@@ -44,25 +49,34 @@ def is_known(frame):
     return "?" not in function and "?" not in place and not place.endswith(":0")
 
 
+def common_folder(places):
+    """The folder in which the program was built, as far as files are named with their whole paths."""
+    prefix = os.path.commonprefix([place for place in places if place.startswith("/")])
+    return os.path.dirname(prefix).rstrip("/") + "/" if prefix else ""
+
+
 def caller_in(frames):
-    """The first frame outside of headers that are called everywhere, else the last."""
-    known = [frame for frame in frames if is_known(frame)]
-    outside = [frame for frame in known if not HEADER.search(frame[1])]
-    return (outside or known[-1:] or [None])[0]
-
-
-def common_folder(callers):
-    """The folder in which the program was built, if all files are named with their whole paths."""
-    prefix = os.path.commonprefix([place for _, place in callers])
-    return os.path.dirname(prefix) if prefix.startswith("/") else ""
+    """The first frame outside of headers, else the last."""
+    outside = [frame for frame in frames if not HEADER.search(frame[1])]
+    return (outside or frames[-1:] or [None])[0]
 
 
 def names_of(program, addresses):
-    frames = frames_of(program, addresses)
-    callers = {address: caller_in(frames.get(address, [])) for address in addresses}
-    known = {address: caller for address, caller in callers.items() if caller}
-    folder = common_folder(known.values())
-    return {address: f"{function} {place[len(folder):].lstrip('/')}" for address, (function, place) in known.items()}
+    frames = {address: [frame for frame in found if is_known(frame)] for address, found in frames_of(program, addresses).items()}
+    folder = common_folder(place for found in frames.values() for _, place in found)
+    callers = {address: caller_in([(function, place.removeprefix(folder)) for function, place in found]) for address, found in frames.items()}
+    return {address: " ".join(caller) for address, caller in callers.items() if caller}
+
+
+def address_of(line):
+    note = NOTE.match(line)
+    return int(note[2], 16) if note else None
+
+
+def named(line, names):
+    note = NOTE.match(line)
+    name = names.get(int(note[2], 16)) if note else None
+    return line if name is None else note[1] + name.encode("utf-8", "surrogateescape") + line[note.end(2):]
 
 
 def main(words):
@@ -75,14 +89,16 @@ def main(words):
             lines = file.readlines()
     except OSError as error:
         sys.exit(f"notes.py: {error}")
-    noted = [NOTE.match(line) for line in lines]
-    addresses = sorted({int(note[2], 16) for note in noted if note and int(note[2], 16) >= WITHIN_CALL})
+    addresses = sorted({address for address in map(address_of, lines) if address is not None and address >= WITHIN_CALL})
     names = names_of(program, addresses) if addresses else {}
     if addresses and not names:
-        sys.exit(f"notes.py: {program} knows none of the addresses: it has no debug information, or did not write this trace")
-    for line, note in zip(lines, noted):
-        name = names.get(int(note[2], 16)) if note else None
-        sys.stdout.buffer.write(note[1] + name.encode() + line[len(note[0].rstrip(b"\n")):] if name else line)
+        why = "it has no debug information, did not write this trace, or ran elsewhere (KASLR, PIE)"
+        sys.exit(f"notes.py: {program} knows none of the addresses: {why}")
+    try:
+        sys.stdout.buffer.writelines(named(line, names) for line in lines)
+        sys.stdout.buffer.flush()
+    except BrokenPipeError:
+        os.dup2(os.open(os.devnull, os.O_WRONLY), sys.stdout.fileno())
 
 
 if __name__ == "__main__":
