@@ -1,0 +1,256 @@
+#!/usr/bin/env python3
+"""The verdicts of `svsim watch` on a trace, gathered by their causes: watch_causes.py TRACE [PROGRAM]
+
+One mistake of a kernel gives a verdict for each page, hart and moment. A *finding* is what one record made stale of one page for one hart,
+with all its verdicts. A *cause* is all findings that agree in three things: pages of the kernel or not, the first verdict, and its reason.
+
+- `claim`: what its own flush asked for between its `c` and its `d`, by `f` and `r` of the hart that flushes and, where that begins no `r`,
+  by `f` of the verdict's hart. It is the first of these that holds: no fence; none for this hart; each for another ASID, or for some ASID
+  while the page is global; none for this page; else a fence that was not done yet.
+- `free`, `reuse`: no flush of the page had begun since it was stale, or else the same of the newest that had.
+
+Below a cause stand its verdicts, and how many findings are *used* (`watch` gave `use`), *reachable* (from the first verdict to the fence
+that drops it, the ASID is in the hart's satp; of a global page any), or *not reached*. Then come the notes of the stores, and one example.
+Numbers behind TRACE: are lines of the file. First come pages of users, then frames that were given out again, then what can be used.
+PROGRAM stands for ./svsim. The status is that of `watch`.
+
+Each verdict is in one finding. Reasons and groups are this script's own: no proof stands behind them.
+"""
+import os, re, subprocess, sys
+from bisect import bisect_left, bisect_right
+from collections import Counter, defaultdict, namedtuple
+from watch_definitions import is_fenced, reaches, read
+
+TOP = os.path.dirname(os.path.dirname(os.path.abspath(__file__)))
+VERDICT = re.compile(
+    r"(\d+) (kernel-)?(free|reuse|claim|use) hart (\d+) may hold page ([0-9a-f]+)\+([0-9a-f]+) -> [0-9a-f]+ \S{5} "
+    r"asid (\S+) root (\S+), stale since (\d+).*")
+NOTE = re.compile(r" [@#](.*)$")
+Page = namedtuple("Page", "base level is_global asid root")
+Fence = namedtuple("Fence", "record hart rs1 rs2")
+Remote = namedtuple("Remote", "record hart mask addresses asid end")
+Flush = namedtuple("Flush", "record hart root addresses end")
+NO_FLUSH, NO_FENCE, NOT_THIS_HART, OTHER_ASID, OTHER_PAGE, NOT_DONE = REASONS = (
+    "no flush of the page had begun",
+    "its flush asked for no fence",
+    "its flush asked for no fence on this hart",
+    "its flush fenced another ASID, or some ASID while the page is global",
+    "its flush fenced other pages",
+    "its flush asked for a fence that was not done yet")
+KINDS = ("free", "reuse", "claim", "use")
+REACHES = ("used", "reachable", "not reached")
+MOST_NOTES = 5
+
+
+class Finding:
+    def __init__(self, page, hart, since, first, kind, text):
+        self.page, self.hart, self.since, self.first, self.kind, self.text = page, hart, since, first, kind, text
+        self.verdicts = Counter()
+
+
+class Trace:
+    """What the reasons are read from: fences, flushes and satps, each by its hart in the order of the records."""
+
+    def __init__(self, path):
+        self.lines, self.notes = [0], {}  # of each record its line, and its note
+        self.fences, self.remotes, self.satps, self.events = (defaultdict(list) for _ in range(4))
+        self.flushes, self.flush_ending, self.top = [], {}, 2
+        open_remotes, open_flushes = {}, {}
+        with open(path, encoding="utf-8", errors="surrogateescape", newline="\n") as file:
+            for number, line in enumerate(file, 1):
+                if number == 1:
+                    self.top = 3 if line.rstrip("\n").endswith("sv48") else 2
+                elif line.strip() and line[0] not in "#m":
+                    self.add(number, line.rstrip("\n"), open_remotes, open_flushes)
+        for begun in [*open_remotes.values(), *open_flushes.values()]:
+            begun(None)
+        self.flushes.sort()
+        for remotes in self.remotes.values():
+            remotes.sort()
+
+    def add(self, number, line, open_remotes, open_flushes):
+        note = NOTE.search(line)
+        fields = line[: note.start()] if note else line
+        try:
+            op, hart, *rest = read(fields)
+        except (TypeError, ValueError, IndexError):
+            return  # `watch` says where a line has no form
+        record = len(self.lines)
+        self.lines.append(number)
+        if note:
+            self.notes[record] = note[1]
+        if op == "fence":
+            self.fences[hart].append(Fence(record, hart, *rest))
+            self.events[hart].append((record, self.fences[hart][-1]))
+        elif op == "satp":
+            self.satps[hart].append((record, rest[0]))
+            self.events[hart].append((record, rest[0]))
+        elif op == "remote":
+            token, mask, addresses, asid = rest
+            open_remotes[token] = lambda end: self.end_remote(Remote(record, hart, mask, addresses, asid, end))
+        elif op == "remote_end" and rest[0] in open_remotes:
+            open_remotes.pop(rest[0])(record)
+        elif op == "claim":
+            token, root, addresses = rest
+            open_flushes[token] = lambda end: self.end_flush(Flush(record, hart, root, addresses, end))
+        elif op == "claim_end" and rest[0] in open_flushes:
+            open_flushes.pop(rest[0])(record)
+
+    def end_remote(self, remote):
+        self.remotes[remote.hart].append(remote)
+        if remote.end:
+            for hart in range(64):
+                if remote.mask >> hart & 1:
+                    self.events[hart].append((remote.end, remote))
+
+    def end_flush(self, flush):
+        self.flushes.append(flush)
+        if flush.end:
+            self.flush_ending[flush.end] = flush
+
+    def asked(self, flush, until, hart):
+        """The fences that a flush asked for until a record, as far as they can be for this hart or tell that others were."""
+        def between(fences):
+            return fences[bisect_left(fences, (flush.record,)) : bisect_left(fences, (until,))]
+
+        own, remotes = between(self.fences[flush.hart]), between(self.remotes[flush.hart])
+        if not remotes and hart != flush.hart:
+            own = own + between(self.fences[hart])
+        return own + remotes
+
+    def reason_of(self, flush, until, hart, page):
+        asked = self.asked(flush, until, hart)
+        here = [fence for fence in asked if is_for(fence, hart)]
+        of_space = [fence for fence in here if covers_space(fence, page)]
+        of_page = [fence for fence in of_space if covers_page(fence, page, self.top)]
+        found = ((asked, NO_FENCE), (here, NOT_THIS_HART), (of_space, OTHER_ASID), (of_page, OTHER_PAGE))
+        return next((reason for fences, reason in found if not fences), NOT_DONE)
+
+    def newest_flush(self, page, since, until):
+        for flush in reversed(self.flushes[bisect_right(self.flushes, (since,)) : bisect_left(self.flushes, (until,))]):
+            if is_flush_of(flush, page):
+                return flush
+        return None
+
+    def reason(self, finding):
+        if finding.kind == "claim":
+            flush = self.flush_ending[finding.first]
+        else:  # that has not ended, or there had been a claim
+            flush = self.newest_flush(finding.page, finding.since, finding.first)
+        return self.reason_of(flush, finding.first, finding.hart, finding.page) if flush else NO_FLUSH
+
+    def reach(self, finding):
+        if finding.verdicts["use"]:
+            return "used"
+        satps = self.satps[finding.hart]
+        place = bisect_left(satps, (finding.first,))
+        if place and is_under(satps[place - 1][1], finding.page):
+            return "reachable"
+        events = self.events[finding.hart]
+        for record, event in events[bisect_left(events, (finding.first,)) :]:
+            if isinstance(event, (Fence, Remote)):
+                if covers_space(event, finding.page) and covers_page(event, finding.page, self.top):
+                    return "not reached"
+            elif is_under(event, finding.page):
+                return "reachable"
+        return "not reached"
+
+
+def is_for(fence, hart):
+    return fence.hart == hart if isinstance(fence, Fence) else fence.mask >> hart & 1 == 1
+
+
+def covers_space(fence, page):
+    asid = fence.rs2 if isinstance(fence, Fence) else fence.asid
+    return asid is None or (not page.is_global and asid & 0xFFFF == page.asid)
+
+
+def covers_page(fence, page, top):
+    return is_fenced(fence.rs1, None, page, top) if isinstance(fence, Fence) else reaches(fence.addresses, page)
+
+
+def is_flush_of(flush, page):
+    return (flush.root is None or (flush.root == page.root and not page.is_global)) and reaches(flush.addresses, page)
+
+
+def is_under(space, page):
+    return space is not None and (page.is_global or space[1] == page.asid)
+
+
+def finding_of(text, parts):
+    first, kernel, kind, hart, base, size, asid, root, since = parts
+    level = (int(size, 16).bit_length() - 13) // 9
+    page = Page(int(base, 16), level, bool(kernel), *((0, 0) if kernel else (int(asid, 16), int(root, 16))))
+    return Finding(page, int(hart), int(since), int(first), kind, text)
+
+
+def findings_of(program, path):
+    """The findings in the order of their first verdicts, what `watch` says last, and its status."""
+    found, last = {}, ""
+    watch = subprocess.Popen([program, "watch", path], stdout=subprocess.PIPE, encoding="utf-8", errors="surrogateescape")
+    for line in watch.stdout:
+        parts = VERDICT.fullmatch(line.rstrip("\n"))
+        if not parts:
+            last = line
+            continue
+        new = finding_of(line.rstrip("\n"), parts.groups())
+        found.setdefault((new.since, new.hart, new.page), new).verdicts[new.kind] += 1
+    return list(found.values()), last, watch.wait()
+
+
+def counted(number, noun):
+    return f"{number:,} {noun}" + ("" if number == 1 else "s")
+
+
+def listed(numbers):
+    return ", ".join(map(str, sorted(numbers)))
+
+
+def weight(key, findings):
+    """The order of causes: pages of users first, then what was given out again, then by reach, then by findings."""
+    kernel = key[0]
+    return kernel, not any(f.verdicts["reuse"] for f in findings), min(REACHES.index(f.reach) for f in findings), -len(findings)
+
+
+def told(path, trace, key, findings):
+    """A cause in lines."""
+    kernel, kind, reason = key
+    verdicts = sum((f.verdicts for f in findings), Counter())
+    reach = Counter(f.reach for f in findings)
+    pages, spaces = {f.page for f in findings}, {(f.page.asid, f.page.root) for f in findings}
+    yield f"{'kernel' if kernel else 'user'} pages, first `{kind}`: {reason}"
+    of = "" if kernel else f" of {counted(len(spaces), 'space')}"
+    yield f"{counted(len(findings), 'finding')}: {counted(len(pages), 'page')}{of}, harts {listed({f.hart for f in findings})}"
+    yield "verdicts: " + ", ".join(f"{v} {verdicts[v]:,}" for v in KINDS if verdicts[v])
+    yield ", ".join(f"{r} {reach[r]:,}" for r in REACHES if reach[r])
+    for note, count in Counter(trace.notes.get(f.since) for f in findings).most_common(MOST_NOTES):
+        if note is not None:
+            yield f"stale by {note}: {count:,}"
+    one = min(findings, key=lambda f: (REACHES.index(f.reach), f.first))
+    verdict = one.text.split(" ", 1)[1].split(", stale since")[0]
+    yield f"{path}:{trace.lines[one.since]}: stale from here on; {path}:{trace.lines[one.first]}: {verdict}"
+
+
+def causes_of(program, path):
+    """The causes in their order, each with its findings; what `watch` says last, and its status; and the trace."""
+    findings, last, status = findings_of(program, path)
+    trace, causes = Trace(path), defaultdict(list)
+    for finding in findings:
+        finding.reach = trace.reach(finding)
+        causes[finding.page.is_global, finding.kind, trace.reason(finding)].append(finding)
+    return sorted(causes.items(), key=lambda item: weight(*item)), last, status, trace
+
+
+def main(words):
+    if len(words) not in (1, 2):
+        sys.exit("usage: watch_causes.py TRACE [PROGRAM]")
+    path, program = words[0], words[1] if len(words) == 2 else os.path.join(TOP, "svsim")
+    causes, last, status, trace = causes_of(program, path)
+    for number, (key, findings) in enumerate(causes, 1):
+        print(f"{number}. " + "\n   ".join(told(path, trace, key, findings)))
+    print(f"{counted(len(causes), 'cause')}, {counted(sum(len(findings) for _, findings in causes), 'finding')}; {last}", end="")
+    return status
+
+
+if __name__ == "__main__":
+    sys.exit(main(sys.argv[1:]))

@@ -1,0 +1,101 @@
+#!/usr/bin/env python3
+"""What watch_causes.py says of traces whose causes were worked out by hand: watch_causes_test.py PROGRAM, which stands for ./svsim.
+
+The small kernel of examples/watch/kernel, right and with each of its mistakes (docs/C.md has them), and traces of a few records, one for each
+reason and each reach. Each verdict of `watch` has to be in one finding. The last line is `N passed, M failed`.
+"""
+import os, sys, tempfile
+from watch_causes import NO_FENCE, NO_FLUSH, NOT_DONE, NOT_THIS_HART, OTHER_ASID, OTHER_PAGE, TOP, causes_of
+from trace_lines import access, bare, claim, fence, given_back, given_out, header, kernel_leaf, leaf, line_of, pointer, remote_fence, satp, store
+
+# What the mistake of the kernel (scenes.c, kernel.c) leaves undone.
+KERNEL = {
+    "0": [],
+    "11": [(False, "claim", NOT_THIS_HART)],  # unmap takes hart 2 off the flush's mask
+    "12": [(False, "claim", NOT_THIS_HART)],  # so does leaving a space
+    "13": [(False, "free", NO_FLUSH)],  # give_back stands before do_flush
+    "14": [(False, "claim", OTHER_ASID)],  # the flush's ASID is one more
+    "15": [(False, "free", NO_FLUSH)],  # do_flush stands before the store
+    "21": [(False, "claim", NO_FENCE)],  # fork's flush names no hart
+    "22": [(False, "claim", NO_FENCE)],  # nor does that of a copy
+    "31": [(False, "claim", OTHER_PAGE)],  # the fence of a superpage names one page
+    "32": [],  # a cached pointer
+    "41": [(True, "claim", OTHER_ASID)],  # a page of the kernel is fenced under an ASID
+    "51": [(False, "free", NO_FLUSH)],  # the end of a process flushes nothing
+}
+ROOT, MIDDLE, LEAVES, OTHER = 0x80000, 0x80001, 0x80002, 0x80010
+PAGE = 0x1000
+BEGIN, END = line_of("c", 0, 1, None, PAGE, PAGE), line_of("d", 0, 1)
+
+
+def unmapped(word=leaf(0x200)):
+    """Harts 0 and 1 hold the page, and hart 0 takes it out of the tables."""
+    yield from (header(3), store(ROOT, 0, pointer(MIDDLE)), store(MIDDLE, 0, pointer(LEAVES)), given_out(0x200), store(LEAVES, 1, word))
+    yield from (satp(0, ROOT), satp(1, ROOT), fence(0), fence(1), store(LEAVES, 1))
+
+
+# The records behind that, and each cause: kernel or not, first verdict, reason; and of each finding its hart and its reach.
+ROWS = [
+    ("a flush without a fence", [BEGIN, END], [(False, "claim", NO_FENCE, "0 reachable, 1 reachable")]),
+    ("a fence of hart 0 alone", [BEGIN, fence(0, PAGE, 1), END], [(False, "claim", NOT_THIS_HART, "1 reachable")]),
+    ("a remote fence of a third hart", [BEGIN, fence(0), *remote_fence(0, 2, 1 << 2, 0, 0), END], [(False, "claim", NOT_THIS_HART, "1 reachable")]),
+    ("both under ASID 2", [BEGIN, fence(0, None, 2), *remote_fence(0, 2, 2, 0, 0, 2), END], [(False, "claim", OTHER_ASID, "0 reachable, 1 reachable")]),
+    ("hart 1 for the next page", [BEGIN, fence(0), *remote_fence(0, 2, 2, 2 * PAGE, PAGE), END], [(False, "claim", OTHER_PAGE, "1 reachable")]),
+    ("the wrong ASID, and then the wrong page", [BEGIN, fence(0), *remote_fence(0, 2, 2, 0, 0, 2), *remote_fence(0, 3, 2, 2 * PAGE, PAGE, 1), END],
+     [(False, "claim", OTHER_PAGE, "1 reachable")]),
+    ("asked, and not waited for", [BEGIN, fence(0), line_of("r", 0, 2, 2, 0, 0, None), END], [(False, "claim", NOT_DONE, "1 reachable")]),
+    ("by interrupts, hart 1 for the next page", [BEGIN, fence(0), fence(1, 2 * PAGE), END], [(False, "claim", OTHER_PAGE, "1 reachable")]),
+    ("freed with no flush", [given_back(0x200)], [(False, "free", NO_FLUSH, "0 reachable, 1 reachable")]),
+    ("freed after a flush of another page", [*claim(1, None, 2 * PAGE, PAGE), given_back(0x200)], [(False, "free", NO_FLUSH, "0 reachable, 1 reachable")]),
+    ("freed within a flush", [BEGIN, fence(0), given_back(0x200)], [(False, "free", NOT_THIS_HART, "1 reachable")]),
+    ("freed before the fence is done", [BEGIN, fence(0), line_of("r", 0, 2, 2, 0, 0, None), given_back(0x200)], [(False, "free", NOT_DONE, "1 reachable")]),
+    ("given out again", [given_out(0x200)], [(False, "reuse", NO_FLUSH, "0 reachable, 1 reachable")]),
+    ("used", [BEGIN, fence(0), END, access(1, PAGE)], [(False, "claim", NOT_THIS_HART, "1 used")]),
+    ("hart 1 is elsewhere until it fences", [satp(1, OTHER, 2), BEGIN, fence(0), END, fence(1), satp(1, ROOT)], [(False, "claim", NOT_THIS_HART, "1 not reached")]),
+    ("and comes back without a fence", [satp(1, OTHER, 2), BEGIN, fence(0), END, fence(1, None, 2), satp(1, ROOT)], [(False, "claim", NOT_THIS_HART, "1 reachable")]),
+    ("hart 1 is nowhere", [bare(1), BEGIN, fence(0), END, *remote_fence(0, 2, 2, 0, 0), satp(1, ROOT)], [(False, "claim", NOT_THIS_HART, "1 not reached")]),
+    ("two causes", [BEGIN, fence(0), END, store(LEAVES, 1, leaf(0x201)), store(LEAVES, 1), given_back(0x201)],
+     [(False, "free", NO_FLUSH, "0 reachable, 1 reachable"), (False, "claim", NOT_THIS_HART, "1 reachable")]),
+    ("a page of the kernel under an ASID", [BEGIN, fence(0, None, 0), *remote_fence(0, 2, 2, 0, 0, 1), END],
+     [(True, "claim", OTHER_ASID, "0 reachable, 1 reachable")], kernel_leaf(0x200)),
+]
+
+
+def answered(program, lines):
+    with tempfile.NamedTemporaryFile("w", suffix=".trace") as file:
+        file.write("\n".join(lines) + "\n")
+        file.flush()
+        return causes_of(program, file.name)
+
+
+def is_whole(causes, last):
+    """Each verdict is in one finding."""
+    told = sum(sum(finding.verdicts.values()) for _, findings in causes for finding in findings)
+    return f", {told} verdict" in last or (told == 0 and ", no verdict" in last)
+
+
+def results(program):
+    for name, wanted in KERNEL.items():
+        causes, last, _, _ = causes_of(program, f"{TOP}/examples/cases/watch/kernel-{name}.trace")
+        got = [key for key, _ in causes]
+        yield f"kernel {name}", got == wanted and is_whole(causes, last), got
+    for title, behind, wanted, *word in ROWS:
+        causes, last, _, _ = answered(program, [*unmapped(*word), *behind])
+        got = [(*key, ", ".join(f"{f.hart} {f.reach}" for f in sorted(findings, key=lambda f: f.hart))) for key, findings in causes]
+        yield title, got == wanted and is_whole(causes, last), got
+
+
+def main(program):
+    passed = failed = 0
+    for title, is_right, got in results(program):
+        passed, failed = passed + is_right, failed + (not is_right)
+        if not is_right:
+            print(f"FAILED {title}: {got}")
+    print(f"{passed} passed, {failed} failed")
+    return failed > 0
+
+
+if __name__ == "__main__":
+    if len(sys.argv) != 2 or not os.access(sys.argv[1], os.X_OK):
+        sys.exit("usage: watch_causes_test.py PROGRAM")
+    sys.exit(main(os.path.abspath(sys.argv[1])))
