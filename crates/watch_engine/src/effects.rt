@@ -153,8 +153,8 @@ impl<T: Tables> Effect for SettleUnlessStale<'_, T> {
     }
 }
 
-// With what the tables have now, if words at some addresses were taken from that or not all roots stay,
-// and nothing was put to it.
+// Rechecks what is current after the words at these addresses became 0, or not all roots stay: that only
+// takes from what the tables have. If neither is so, nothing is done.
 pub(crate) fn settle_taken<T: Tables>(
     addresses: &[u64],
     all_stay: bool,

@@ -2,45 +2,51 @@
 //!
 //! # The plain way
 //!
-//! A watch has the page tables, what is in each hart's satp, the roots of address spaces, the spaces
-//! that harts have left with the fences since then, and a list of translations that harts may hold.
-//! What a hart can fill now is not in the list: tables and satp tell it. A record takes four steps:
+//! A watch has the page tables (`Tables`), what is in each hart's satp (`Satps`), the roots of
+//! address spaces (`Roots`), the spaces that harts have left (`LeftSpaces`), the fences so far
+//! (`PastFences`), and a list of translations that harts may hold (`TranslationIndex`). What a hart
+//! can fill now, load into its TLB by a walk, need not be in the list: tables and satp tell it.
+//!
+//! A record that changes tables takes four steps:
 //!
 //! 1. List what harts can fill, or may hold of spaces that they left, below each word that changes:
-//!    `add_seen`, `add_seen_in` (seen.rt).
+//!    `add_seen` for one word, `add_seen_in` for many (seen.rt).
 //! 2. Put it into the list of what they may hold: `remember_all` (page_runs.rt).
-//! 3. Change tables, satps, roots, spaces that were left, or fences.
-//! 4. Recheck the list. An item is current, stale since this record, or gone: `settle_touched`
-//!    (touched.rt) after a store; `find_again`, `settle_taken`, `drop_fenced`, `drop_remote`
-//!    (effects.rt) after a new root, frames that are given out, and fences.
+//! 3. Change the tables and, where frames are given out, roots and spaces that were left.
+//! 4. Recheck the list: an item is current, stale since some record, or gone (state.rt). After a
+//!    store `settle_touched` (touched.rt) does it, after frames `settle_taken` (effects.rt).
 //!
-//! Verdicts come from the list before it is rechecked: `warnings` (warning.rt), which `mark_given`
-//! notes in the items, so that each comes once.
+//! A write of satp adds the space that the hart leaves, and `find_again` rechecks items if the root is
+//! new. A fence drops items: `drop_fenced` of its hart, `drop_remote` of the harts that were asked.
+//! Verdicts are found before any of this: `warnings` (warning.rt) finds those of a `Cause` (cause.rt),
+//! and `mark_given` notes them in the items, so that each but `Used` comes once.
 //!
 //! A new kind of record is an arm of `record`, a method beside `store` and, if it changes what harts
-//! may hold, an `Effect`. A new verdict is a `Cause` and a flag of `State`.
+//! may hold, an `Effect` (effects.rt) with its keys (concern.rt). A new verdict is a `Cause` and a flag
+//! of `Given` (state.rt). Lines are read and printed by the crate `watch_report`.
 //!
 //! # Shortcuts
 //!
-//! By its clauses each gives what the plain way behind the colon gives. How much a trace takes without
-//! it is in docs/dev/PERFORMANCE.md.
+//! The clauses of each say that it gives what the plain way behind the colon gives. How much a trace
+//! takes without it is in docs/dev/PERFORMANCE.md.
 //!
-//! - The ways to 16 tables are cached (`KeptWays`): `Tables::ways` at each store.
-//! - An effect goes along the chains of its keys (`apply_by_keys`, held_list.rt): `apply_each`.
-//! - Where no item has the keys of a cause, none is looked at (`may_concern`): `all_warnings`.
-//! - An item that goes leaves its place empty (`tidy`): `close_up` at each.
-//! - Before many items of a page are added its chain is looked through once (`remember_run`):
-//!   `HeldList::remember` of each.
-//! - Fences since a hart left a space are found by keys (`PastFences`): `is_taken_since` of left.rt.
-//! - Spaces that were left, and roots, are in the order of roots (`LeftSpaces`, `Roots`): scans.
-//! - Harts and spaces of a root are found once for its leaves (`add_of_root`, seen.rt): `add_one` of
-//!   each.
-//! - Harts answer once for leaves with the same entry, and for those below one word of a root
-//!   (`add_alike`, `add_beside`): `add_leaf` without answers.
-//! - Leaves of which nothing is to be remembered are not listed (`adds_nothing`): `add_seen`.
-//! - The last answer of the tables is kept (`is_current_again`, touched.rt): `is_current`.
-//! - Roots in a row with the same word are walked once (`is_mapped_in_any`): its default.
-//! - Pages that do not ask for a word are passed over (`asks`, touched.rt): `is_touched_on_any`.
+//! - The paths from roots to 16 tables are cached (`KeptWays`): `Tables::ways` at each store.
+//! - An effect visits the items with its keys, by chains (`apply_by_keys`, held_list.rt):
+//!   `apply_each`.
+//! - If no item with the keys of a cause is of it, the list is not scanned (`may_concern`,
+//!   held_list.rt): `all_warnings`.
+//! - An item that goes leaves its place empty (`tidy`, held_list.rt): `close_up` at each.
+//! - Many translations of a page are added after one look at its chain (`remember_run`,
+//!   page_runs.rt): `HeldList::remember` of each.
+//! - Fences since a hart left a space are found by keys (past_fences.rt): `is_taken_since` (left.rt).
+//! - Spaces that were left, and harts, are found by their root (left_spaces.rt, satps.rt): scans.
+//! - For leaves of one root that is done once (`add_of_root`, seen.rt): `add_one` of each.
+//! - Whether a hart can fill a leaf is asked once for leaves with the same entry, or below one word
+//!   of a root (`add_alike`, `add_beside`, seen.rt): `add_leaf` without answers.
+//! - Leaves of which nothing is to be remembered are not listed (unseen.rt): `add_seen`.
+//! - The last answer of the tables is cached (`is_current_again`, touched.rt): `is_current`.
+//! - Roots in a row with the same word are walked once (`is_mapped_in_any`): the trait's default.
+//! - Pages with no such index are passed over (`asks`, touched.rt): `is_touched_on_any`.
 //! - Where nothing changed nothing is done (`settle_taken`, `mark_given`, `drop_given`,
 //!   `keep_unless_any`): their bodies without the first test.
 

@@ -305,8 +305,8 @@ impl LeftSpaces {
         self.spaces.truncate(kept);
     }
 
-    /// Takes frames that are given out from the roots, but for those in a satp, and drops the spaces of
-    /// those roots; and whether all roots stay.
+    /// Takes frames that are given out from the roots, but for those in a satp, and drops the spaces
+    /// of those roots. Whether all roots stay.
     pub(crate) fn drop_given(
         &mut self,
         roots: &mut Roots,

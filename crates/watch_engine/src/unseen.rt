@@ -18,7 +18,7 @@ use crate::view::View;
 use watch::Space;
 use watch_tables::Way;
 
-/// Of more spaces that were left it is not asked whether who left them can fill the leaves.
+/// A root that harts left more often is not looked at.
 const FEW_SPACES: usize = 16;
 
 // No hart has the root in its satp.
@@ -58,8 +58,7 @@ fn fill_below<T: Tables>(view: &View<'_, T>, left: &[Left], root: u64, index: u1
 
 /// Nothing is to be remembered of the leaves whose paths pass through the word at an address, to
 /// whose table these are the ways: it is a root to which no pointer leads, no hart has it in its
-/// satp, and those that left it can fill the leaves. Where it is not known, or where it was left more
-/// often than `FEW_SPACES`, the answer is false.
+/// satp, and those that left it can fill the leaves. Where that is not known, the answer is false.
 pub(crate) fn adds_nothing<T: Tables>(view: &View<'_, T>, address: u64, ways: &[Way]) -> bool
     requires { AreWaysTo (view_of view.now) address ways.now }
     ensures { IsTrue result → (seen : List LastLiveOf)
