@@ -45,7 +45,11 @@ MOST_NOTES = 5
 class Finding:
     def __init__(self, page, hart, since, first, kind, text):
         self.page, self.hart, self.since, self.first, self.kind, self.text = page, hart, since, first, kind, text
-        self.verdicts = Counter()
+        self.given = []  # records and verdicts
+
+    @property
+    def verdicts(self):
+        return Counter(verdict for _, verdict in self.given)
 
 
 class Trace:
@@ -194,7 +198,7 @@ def findings_of(program, path):
             last = line
             continue
         new = finding_of(line.rstrip("\n"), parts.groups())
-        found.setdefault((new.since, new.hart, new.page), new).verdicts[new.kind] += 1
+        found.setdefault((new.since, new.hart, new.page), new).given.append((new.first, new.kind))
     return list(found.values()), last, watch.wait()
 
 

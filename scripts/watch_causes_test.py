@@ -1,10 +1,12 @@
 #!/usr/bin/env python3
-"""What watch_causes.py says of traces whose causes were worked out by hand: watch_causes_test.py PROGRAM, which stands for ./svsim.
+"""What watch_causes.py and watch_explain.py say of traces that were worked out by hand: watch_causes_test.py PROGRAM, which stands for ./svsim.
 
-The small kernel of examples/watch/kernel, right and with each of its mistakes (docs/C.md has them), and traces of a few records, one for each
-reason and each reach. Each verdict of `watch` has to be in one finding. The last line is `N passed, M failed`.
+Causes: the small kernel of examples/watch/kernel, right and with each of its mistakes (docs/C.md has them), and traces of a few records, one
+for each reason and each reach. Each verdict of `watch` has to be in one finding. Stories: one for each reason why a fence drops nothing.
+The last line is `N passed, M failed`.
 """
 import os, sys, tempfile
+from watch_explain import story_of
 from watch_causes import NO_FENCE, NO_FLUSH, NOT_DONE, NOT_THIS_HART, OTHER_ASID, OTHER_PAGE, TOP, causes_of
 from trace_lines import access, bare, claim, fence, given_back, given_out, header, kernel_leaf, leaf, line_of, pointer, remote_fence, satp, store
 
@@ -34,38 +36,72 @@ def unmapped(word=leaf(0x200)):
     yield from (satp(0, ROOT), satp(1, ROOT), fence(0), fence(1), store(LEAVES, 1))
 
 
+BOTH, ONE = "0 reachable, 1 reachable", "1 reachable"
 # The records behind that, and each cause: kernel or not, first verdict, reason; and of each finding its hart and its reach.
 ROWS = [
-    ("a flush without a fence", [BEGIN, END], [(False, "claim", NO_FENCE, "0 reachable, 1 reachable")]),
-    ("a fence of hart 0 alone", [BEGIN, fence(0, PAGE, 1), END], [(False, "claim", NOT_THIS_HART, "1 reachable")]),
-    ("a remote fence of a third hart", [BEGIN, fence(0), *remote_fence(0, 2, 1 << 2, 0, 0), END], [(False, "claim", NOT_THIS_HART, "1 reachable")]),
-    ("both under ASID 2", [BEGIN, fence(0, None, 2), *remote_fence(0, 2, 2, 0, 0, 2), END], [(False, "claim", OTHER_ASID, "0 reachable, 1 reachable")]),
-    ("hart 1 for the next page", [BEGIN, fence(0), *remote_fence(0, 2, 2, 2 * PAGE, PAGE), END], [(False, "claim", OTHER_PAGE, "1 reachable")]),
-    ("the wrong ASID, and then the wrong page", [BEGIN, fence(0), *remote_fence(0, 2, 2, 0, 0, 2), *remote_fence(0, 3, 2, 2 * PAGE, PAGE, 1), END],
-     [(False, "claim", OTHER_PAGE, "1 reachable")]),
-    ("asked, and not waited for", [BEGIN, fence(0), line_of("r", 0, 2, 2, 0, 0, None), END], [(False, "claim", NOT_DONE, "1 reachable")]),
-    ("by interrupts, hart 1 for the next page", [BEGIN, fence(0), fence(1, 2 * PAGE), END], [(False, "claim", OTHER_PAGE, "1 reachable")]),
-    ("freed with no flush", [given_back(0x200)], [(False, "free", NO_FLUSH, "0 reachable, 1 reachable")]),
-    ("freed after a flush of another page", [*claim(1, None, 2 * PAGE, PAGE), given_back(0x200)], [(False, "free", NO_FLUSH, "0 reachable, 1 reachable")]),
-    ("freed within a flush", [BEGIN, fence(0), given_back(0x200)], [(False, "free", NOT_THIS_HART, "1 reachable")]),
-    ("freed before the fence is done", [BEGIN, fence(0), line_of("r", 0, 2, 2, 0, 0, None), given_back(0x200)], [(False, "free", NOT_DONE, "1 reachable")]),
-    ("given out again", [given_out(0x200)], [(False, "reuse", NO_FLUSH, "0 reachable, 1 reachable")]),
+    ("a flush without a fence", [BEGIN, END], [(False, "claim", NO_FENCE, BOTH)]),
+    ("a fence of hart 0 alone", [BEGIN, fence(0, PAGE, 1), END], [(False, "claim", NOT_THIS_HART, ONE)]),
+    ("a remote fence of a third hart", [BEGIN, fence(0), *remote_fence(0, 2, 4, 0, 0), END], [(False, "claim", NOT_THIS_HART, ONE)]),
+    ("both under ASID 2", [BEGIN, fence(0, None, 2), *remote_fence(0, 2, 2, 0, 0, 2), END], [(False, "claim", OTHER_ASID, BOTH)]),
+    ("hart 1 for the next page", [BEGIN, fence(0), *remote_fence(0, 2, 2, 2 * PAGE, PAGE), END], [(False, "claim", OTHER_PAGE, ONE)]),
+    ("the wrong ASID, and then the wrong page",
+     [BEGIN, fence(0), *remote_fence(0, 2, 2, 0, 0, 2), *remote_fence(0, 3, 2, 2 * PAGE, PAGE, 1), END], [(False, "claim", OTHER_PAGE, ONE)]),
+    ("asked, and not waited for", [BEGIN, fence(0), line_of("r", 0, 2, 2, 0, 0, None), END], [(False, "claim", NOT_DONE, ONE)]),
+    ("by interrupts, hart 1 for the next page", [BEGIN, fence(0), fence(1, 2 * PAGE), END], [(False, "claim", OTHER_PAGE, ONE)]),
+    ("freed with no flush", [given_back(0x200)], [(False, "free", NO_FLUSH, BOTH)]),
+    ("freed after a flush of another page", [*claim(1, None, 2 * PAGE, PAGE), given_back(0x200)], [(False, "free", NO_FLUSH, BOTH)]),
+    ("freed within a flush", [BEGIN, fence(0), given_back(0x200)], [(False, "free", NOT_THIS_HART, ONE)]),
+    ("freed before the fence is done", [BEGIN, fence(0), line_of("r", 0, 2, 2, 0, 0, None), given_back(0x200)], [(False, "free", NOT_DONE, ONE)]),
+    ("given out again", [given_out(0x200)], [(False, "reuse", NO_FLUSH, BOTH)]),
     ("used", [BEGIN, fence(0), END, access(1, PAGE)], [(False, "claim", NOT_THIS_HART, "1 used")]),
-    ("hart 1 is elsewhere until it fences", [satp(1, OTHER, 2), BEGIN, fence(0), END, fence(1), satp(1, ROOT)], [(False, "claim", NOT_THIS_HART, "1 not reached")]),
-    ("and comes back without a fence", [satp(1, OTHER, 2), BEGIN, fence(0), END, fence(1, None, 2), satp(1, ROOT)], [(False, "claim", NOT_THIS_HART, "1 reachable")]),
-    ("hart 1 is nowhere", [bare(1), BEGIN, fence(0), END, *remote_fence(0, 2, 2, 0, 0), satp(1, ROOT)], [(False, "claim", NOT_THIS_HART, "1 not reached")]),
+    ("hart 1 is elsewhere until it fences",
+     [satp(1, OTHER, 2), BEGIN, fence(0), END, fence(1), satp(1, ROOT)], [(False, "claim", NOT_THIS_HART, "1 not reached")]),
+    ("and comes back without a fence",
+     [satp(1, OTHER, 2), BEGIN, fence(0), END, fence(1, None, 2), satp(1, ROOT)], [(False, "claim", NOT_THIS_HART, ONE)]),
+    ("hart 1 is nowhere", [bare(1), BEGIN, fence(0), END, *remote_fence(0, 2, 2, 0, 0), satp(1, ROOT)],
+     [(False, "claim", NOT_THIS_HART, "1 not reached")]),
     ("two causes", [BEGIN, fence(0), END, store(LEAVES, 1, leaf(0x201)), store(LEAVES, 1), given_back(0x201)],
-     [(False, "free", NO_FLUSH, "0 reachable, 1 reachable"), (False, "claim", NOT_THIS_HART, "1 reachable")]),
+     [(False, "free", NO_FLUSH, BOTH), (False, "claim", NOT_THIS_HART, ONE)]),
     ("a page of the kernel under an ASID", [BEGIN, fence(0, None, 0), *remote_fence(0, 2, 2, 0, 0, 1), END],
-     [(True, "claim", OTHER_ASID, "0 reachable, 1 reachable")], kernel_leaf(0x200)),
+     [(True, "claim", OTHER_ASID, BOTH)], kernel_leaf(0x200)),
 ]
+# The records behind `unmapped`, and the lines of the story of the first verdict on hart 1: the number of each, and what is told. Lines 1 to 10
+# are `unmapped`: 5 maps the page, 6 and 7 write satp, 8 and 9 fence, 10 unmaps it.
+LEAVES_IT, FLUSHES, CLEAN = "hart 1 leaves the space, and may keep the page", "a flush of the page begins", "claim: the flush returns"
+MAPPED, STALE, ELSEWHERE = "the page is mapped, or a table above it", "stale from here on", "a fence that is not for hart 1"
+STORIES = [
+    ("not for the hart", [BEGIN, fence(0, PAGE, 1), END, given_back(0x200), access(1, PAGE)],
+     {11: FLUSHES, 12: ELSEWHERE, 13: CLEAN, 14: "free: its frame is given back", 15: "use: the hart uses the page"}),
+    ("another ASID, other pages, not waited for",
+     [BEGIN, *remote_fence(2, 2, 2, 0, 0, 2), fence(0), line_of("r", 0, 3, 2, 2 * PAGE, PAGE, None), line_of("r", 0, 4, 2, 0, 0, None), END],
+     {11: FLUSHES, 12: "a fence of asid 2, not 1", 14: ELSEWHERE, 15: "a fence of other pages than 1000",
+      16: "a fence that is not known to be done", 17: CLEAN}),
+    # mapped again just so, the page is not stale: it is from 13 on
+    ("left, mapped and unmapped again", [satp(1, OTHER, 2), store(LEAVES, 1, leaf(0x200)), store(LEAVES, 1), given_out(0x200)],
+     {5: None, 10: None, 11: LEAVES_IT, 12: MAPPED, 13: STALE, 14: "reuse: its frame is given out again"}),
+    ("left later", [satp(1, OTHER, 2), given_back(0x200)], {12: "free: its frame is given back"}),
+    ("done later", [BEGIN, fence(0), line_of("r", 0, 2, 2, 0, 0, None), END, line_of("e", 0, 2)],
+     {11: FLUSHES, 12: ELSEWHERE, 13: "a fence that is not known to be done", 14: CLEAN}),
+    # a table is taken out and comes back; the other root has the same ASID
+    ("mapped by a pointer", [store(LEAVES, 1, leaf(0x200)), store(MIDDLE, 0), store(MIDDLE, 0, pointer(LEAVES)), satp(1, OTHER), store(LEAVES, 1), given_back(0x200)],
+     {5: None, 10: None, 13: MAPPED, 14: LEAVES_IT, 15: STALE, 16: "free: its frame is given back"}),
+    ("fences of others are counted", [fence(2), fence(0), given_back(0x200)],
+     {13: "free: its frame is given back", 0: "and 2 fences since that were not for hart 1"}),
+]
+BEGINNING = {5: MAPPED, 7: "hart 1 enters the space", 9: "hart 1 drops all that it holds of the page", 10: STALE}
 
 
-def answered(program, lines):
+def answered(program, lines, answer):
     with tempfile.NamedTemporaryFile("w", suffix=".trace") as file:
         file.write("\n".join(lines) + "\n")
         file.flush()
-        return causes_of(program, file.name)
+        return answer(program, file.name)
+
+
+def story(program, path, lines):
+    """What is told of the first verdict on hart 1, by the number of the line; 0 stands for what has none."""
+    told = next(told for finding, told in (story_of(program, path, number, 1) for number in range(1, lines + 1)) if finding)
+    return {int(line[:2].strip() or 0): line.rsplit("    ", 1)[-1].strip() for line in told}
 
 
 def is_whole(causes, last):
@@ -80,9 +116,13 @@ def results(program):
         got = [key for key, _ in causes]
         yield f"kernel {name}", got == wanted and is_whole(causes, last), got
     for title, behind, wanted, *word in ROWS:
-        causes, last, _, _ = answered(program, [*unmapped(*word), *behind])
+        causes, last, _, _ = answered(program, [*unmapped(*word), *behind], causes_of)
         got = [(*key, ", ".join(f"{f.hart} {f.reach}" for f in sorted(findings, key=lambda f: f.hart))) for key, findings in causes]
         yield title, got == wanted and is_whole(causes, last), got
+    for title, behind, wanted in STORIES:
+        lines = [*unmapped(), *behind]
+        got = answered(program, lines, lambda program, path: story(program, path, len(lines)))
+        yield f"story: {title}", got == {number: text for number, text in {**BEGINNING, **wanted}.items() if text}, got
 
 
 def main(program):
