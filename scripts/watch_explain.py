@@ -153,7 +153,10 @@ def main(words):
         line, hart, page = int(line), None if hart == "-" else int(hart), None if page == "-" else int(page, 16)
     except ValueError:
         sys.exit("usage: watch_explain.py TRACE LINE [HART [PAGE [PROGRAM]]]")
-    finding, lines = story_of(program, path, line, hart, page)
+    try:
+        finding, lines = story_of(program, path, line, hart, page)
+    except OSError as error:
+        sys.exit(f"watch_explain.py: {error}")
     if not finding:
         sys.exit(f"watch_explain.py: {path}:{line}: no such verdict")
     try:
