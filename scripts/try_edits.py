@@ -52,20 +52,21 @@ def rounds_of(tried, texts):
 
 def apply(of_round, texts):
     """The texts with the edits of a round, and for each edit the lines of the functions that it changed."""
-    made, spans = dict(texts), {}
-    for edit in of_round:
-        for old, new in edit.pairs:
-            if made[edit.file].count(old) != 1:
-                sys.exit(f"try_edits.py: {edit.name}: not once in {edit.file}: {old[:80]}")
-            made[edit.file] = made[edit.file].replace(old, new)
-    for edit in of_round:
-        text = made[edit.file]
-        starts = [match.start() for match in FUNCTION.finditer(text)] + [len(text)]
-        spans[edit.name] = []
-        for _, new in edit.pairs:
-            at = text.find(new)
-            first, end = max((it for it in starts if it <= at), default=0), min(it for it in starts if it > at)
-            spans[edit.name].append((text.count("\n", 0, first) - 3, text.count("\n", 0, end) + 1))
+    made, spans = dict(texts), {edit.name: [] for edit in of_round}
+    for file in {edit.file for edit in of_round}:
+        pairs = [(texts[file].find(old), old, new, edit.name) for edit in of_round if edit.file == file for old, new in edit.pairs]
+        made[file], places, at = "", [], 0
+        for place, old, new, name in sorted(pairs):
+            if texts[file].count(old) != 1 or place < at:
+                sys.exit(f"try_edits.py: {name}: not once in {file}, or in another edit of its round: {old[:80]}")
+            made[file] += texts[file][at:place]
+            places.append((len(made[file]), name))
+            made[file], at = made[file] + new, place + len(old)
+        made[file] += texts[file][at:]
+        starts = [match.start() for match in FUNCTION.finditer(made[file])] + [len(made[file])]
+        for place, name in places:
+            first, end = max((it for it in starts if it <= place), default=0), min(it for it in starts if it > place)
+            spans[name].append((made[file].count("\n", 0, first) - 3, made[file].count("\n", 0, end) + 1))
     return made, spans
 
 
