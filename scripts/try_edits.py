@@ -1,8 +1,8 @@
 #!/usr/bin/env python3
 """Tries the must-fail edits of a crate many at once: try_edits.py CRATE [NAME ..]
 
-`rt must-fail` checks the crate once for each edit. Here each round makes all edits that lie in functions of their own, and checks the crate
-once: a caller sees a function's clauses alone, so no edit changes what another's goals are. An edit passes if rt prints the goal that
+`rt must-fail` checks the crate once for each edit. Here each round makes all edits of functions that lie in functions of their own, and checks
+the crate once: a caller sees a function's clauses alone, so no edit changes what another's goals are. An edit passes if rt prints the goal that
 scripts/edits.txt names, in the function that it edits or in the proof that it names. The gate is `rt ci`; this is for those who change a crate.
 
 It edits the sources in place and puts them back, so it wants them committed, and nothing else may read them meanwhile. Begin after a
@@ -36,12 +36,15 @@ class Edit:
 
 
 def rounds_of(tried, texts):
-    """Edits in rounds, of which no two lie in one function. Definitions have no functions: of a file of specs/ one edit a round."""
+    """Edits in rounds, of which no two lie in one function. One of a definition may change any goal, so it has a round of its own."""
     rounds = []
     for edit in tried:
-        places = edit.functions(texts[edit.file]) if edit.file.startswith("src/") else {(edit.file, 0)}
+        if not edit.file.startswith("src/"):
+            rounds.append((None, [edit]))
+            continue
+        places = edit.functions(texts[edit.file])
         for taken, of_round in rounds:
-            if not taken & places:
+            if taken is not None and not taken & places:
                 taken |= places
                 of_round.append(edit)
                 break
