@@ -1,9 +1,10 @@
 #!/usr/bin/env python3
-"""What refuses each must-fail edit: edits.py [--write] [LOG]
+"""What refuses each wrong edit: edits.py [--write] [LOG]
 
-scripts/edits.txt has a line `CRATE/NAME FILE GOAL` for each file crates/CRATE/must-fail/NAME.edit, in the order of the names. GOAL is what
-the prover can't show of the wrong body, as far as rt prints it, and FILE where: of the function that is edited a clause
-(`returns-clause-NAME`, `invariant_of-..`), of one that it calls a demand (`CALL-requires-clause-NAME`), or a line of a proof.
+An edit is a file crates/CRATE/edits/NAME.edit, which scripts/try_edits.py tries, or crates/CRATE/must-fail/NAME.edit, which `rt ci` tries
+too. scripts/edits.txt has a line `CRATE/NAME FILE GOAL` for each, in the order of the names. GOAL is what the prover can't show of the wrong
+body, as far as rt prints it, and FILE where: of the function that is edited a clause (`returns-clause-NAME`, `invariant_of-..`), of one that
+it calls a demand (`CALL-requires-clause-NAME`), or a line of a proof.
 
 Without LOG: each edit has its line, each line its edit, and each text that an edit replaces stands once in its file.
 With LOG, which is what `rt ci` or `rt must-fail` printed: each edit that was tried there is refused by its goal.
@@ -21,10 +22,13 @@ TRIED = re.compile(r"rt: must-fail (\S+)\.edit: (.*)")
 def edits():
     """The names of all edits, each with its path."""
     found = {}
-    for path in sorted(glob.glob(f"{TOP}/crates/*/must-fail/*.edit")):
+    for path in glob.glob(f"{TOP}/crates/*/edits/*.edit") + glob.glob(f"{TOP}/crates/*/must-fail/*.edit"):
         crate, _, file = os.path.relpath(path, f"{TOP}/crates").split(os.sep)
-        found[f"{crate}/{file[: -len('.edit')]}"] = path
-    return found
+        name = f"{crate}/{file[: -len('.edit')]}"
+        if name in found:
+            sys.exit(f"edits.py: {name} is in edits/ and in must-fail/")
+        found[name] = path
+    return dict(sorted(found.items()))
 
 
 def goals_listed():
@@ -72,11 +76,12 @@ def check_list(found, listed):
             yield stands_once(file, text), f"{name}: not once in {os.path.relpath(file, TOP)}: {text[:80]}"
 
 
-def check_log(listed, told):
-    """Each edit of the log, and each that is listed of a crate of which the log has some."""
+def check_log(found, listed, told):
+    """Each edit of the log, and each that the gate has of a crate of which the log has some."""
     tried = {name.split("/")[0] for name in told}
     yield tried != set(), "the log has no edit"
-    for name in sorted(told.keys() | {name for name in listed if name.split("/")[0] in tried}):
+    of_gate = {name for name, path in found.items() if "/must-fail/" in path and name.split("/")[0] in tried}
+    for name in sorted(told.keys() | of_gate):
         goal = told.get(name)
         yield goal is not None and goal == listed.get(name), f"{name}: {goal or 'not tried, or not refused'}, and not {listed.get(name)}"
 
@@ -92,7 +97,7 @@ def main(words):
     if words[:1] == ["--write"]:
         return write(goals_told(words[1]))
     listed = goals_listed()
-    results = list(check_log(listed, goals_told(words[0])) if words else check_list(edits(), listed))
+    results = list(check_log(edits(), listed, goals_told(words[0])) if words else check_list(edits(), listed))
     for is_right, told in results:
         if not is_right:
             print(f"FAILED {told}")

@@ -1,33 +1,35 @@
 #!/usr/bin/env python3
-"""Tries the must-fail edits of a crate many at once: try_edits.py CRATE [NAME ..]
+"""Tries the wrong edits, many at once: try_edits.py [--anew] [--minutes N] [CRATE | CRATE/NAME ..]
 
-`rt must-fail` checks the crate once for each edit. Here each round makes all edits of functions that lie in functions of their own, and checks
-the crate once: a caller sees a function's clauses alone, so no edit changes what another's goals are. An edit passes if rt prints the goal that
-scripts/edits.txt names, in the function that it edits or in the proof that it names. The gate is `rt ci`; this is for those who change a crate.
+Tries those of the crates or edits that are named, or of all crates, lowest first. Each round makes all edits of functions that lie in
+functions of their own, and calls `rt check` once: a caller sees a function's clauses alone, so no edit changes what another's goals are. An
+edit of a definition may change any goal, and has a round of its own. An edit passes if rt prints the goal that scripts/edits.txt names, in
+the function that it edits or in the proof that it names.
 
-It edits the sources in place and puts them back, so it wants them committed, and nothing else may read them meanwhile. Begin after a
-`rt check` of the crate. The last line is `N passed, M failed`.
+It edits the sources in place and puts them back, so it wants them committed, and nothing else may read them meanwhile. A crate whose edits
+have all passed is kept on this machine, by the checksums of all that was read, as `rt ci` keeps proofs; --anew tries it all the same. After
+N minutes it begins no more rounds. The last line is `N passed, M failed`, and `, K skipped` where it did not come to K edits.
 """
-import os, re, signal, subprocess, sys, time
+import argparse, hashlib, math, os, re, resource, signal, subprocess, sys, time
 from edits import TOP, edits, goals_listed
 
 FUNCTION = re.compile(r"^[ \t]*(?:pub(?:\(\w+\))? )?(?:const )?fn \w+", re.M)
 PRINTED = re.compile(r"([\w./]+):(\d+):\d+: (.*)")
 NAMED = re.compile(r"\(`([^`]+)|error: `([^`]+)")
+KEPT = os.path.join(os.environ.get("XDG_CACHE_HOME") or os.path.expanduser("~/.cache"), "melissaledge", "edits")
 
 
 class Edit:
     def __init__(self, name, path):
-        self.name, self.pairs, self.file, old = name, [], None, None
-        with open(path, encoding="utf-8") as file:
-            for line in file.read().split("\n"):
-                key, _, text = line.partition(": ")
-                if key == "file":
-                    self.file = text
-                elif key == "old":
-                    old = text
-                elif key == "new":
-                    self.pairs.append((old, text))
+        self.name, self.path, self.pairs, self.file, old = name, path, [], None, None
+        for line in read(path).split("\n"):
+            key, _, text = line.partition(": ")
+            if key == "file":
+                self.file = text
+            elif key == "old":
+                old = text
+            elif key == "new":
+                self.pairs.append((old, text))
 
     def functions(self, text):
         """Where the functions begin that it edits, by the sources as they stand; a text before all of them counts as one."""
@@ -110,27 +112,100 @@ def write(path, text):
         file.write(text)
 
 
-def main(words):
-    if not words or subprocess.run(["git", "-C", TOP, "diff", "--quiet", "HEAD", "--", f"crates/{words[0]}"]).returncode:
-        sys.exit("usage: try_edits.py CRATE [NAME ..], whose sources are committed")
-    signal.signal(signal.SIGTERM, lambda *_: sys.exit("try_edits.py: ended"))  # and what was edited is put back
-    crate, names, listed = words[0], words[1:], goals_listed()
-    tried = [Edit(name, path) for name, path in edits().items() if name.split("/")[0] == crate and (not names or name.split("/")[1] in names)]
-    texts = {edit.file: read(os.path.join(TOP, "crates", crate, edit.file)) for edit in tried}
-    passed = failed = 0
-    for of_round in rounds_of(tried, texts):
-        begun = time.time()
+def crates_listed():
+    """Each crate of crates.txt with those that it uses, in the order of the file, which has the lowest first."""
+    lines = (line.split("#")[0].strip() for line in read(os.path.join(TOP, "crates.txt")).split("\n"))
+    return {line.split(":")[0].split()[0]: line.split(":")[1].split() for line in lines if ":" in line}
+
+
+def checksum(crate, tried, listed):
+    """Of all that decides whether these edits of the crate are refused: the kit, this crate and those below it, the edits and their goals."""
+    uses, below, rest = crates_listed(), set(), [crate]
+    while rest:
+        name = rest.pop()
+        if name in uses and name not in below:
+            below.add(name)
+            rest += uses[name]
+    digest = hashlib.sha256(subprocess.run(["rt", "version"], stdout=subprocess.PIPE, check=True).stdout)
+    digest.update(repr([(name, uses[name]) for name in sorted(below)]).encode())
+    for name in sorted(below):
+        for part in ("proofs", "specs", "src"):
+            for folder, folders, files in os.walk(os.path.join(TOP, "crates", name, part)):
+                folders.sort()
+                for path in (os.path.join(folder, file) for file in sorted(files)):
+                    digest.update(repr((os.path.relpath(path, TOP), read(path))).encode())
+    for edit in tried:
+        digest.update(repr((edit.name, read(edit.path), listed.get(edit.name))).encode())
+    return digest.hexdigest()
+
+
+def processor_minutes():
+    used = resource.getrusage(resource.RUSAGE_CHILDREN)
+    return (used.ru_utime + used.ru_stime) / 60
+
+
+class Tally:
+    """What came of the edits so far."""
+
+    def __init__(self, minutes):
+        self.passed = self.failed = self.skipped = 0
+        self.deadline = time.monotonic() + 60 * minutes
+
+    def try_round(self, crate, of_round, texts, listed):
+        """Whether all of its edits passed."""
+        if time.monotonic() > self.deadline:
+            self.skipped += len(of_round)
+            return False
         made, spans = apply(of_round, texts)
         printed = check(crate, made, texts)
-        for edit in of_round:
-            is_right = is_told(edit, listed.get(edit.name, "- -"), printed, spans[edit.name])
-            passed, failed = passed + is_right, failed + (not is_right)
-            if not is_right:
-                print(f"FAILED {edit.name}: rt does not print {listed.get(edit.name)}")
-        print(f"{len(of_round)} edits at once, {time.time() - begun:.0f} s", flush=True)
-    print(f"{passed} passed, {failed} failed")
-    return failed > 0 or passed == 0
+        wrong = [edit.name for edit in of_round if not is_told(edit, listed.get(edit.name, "- -"), printed, spans[edit.name])]
+        for name in wrong:
+            print(f"FAILED {name}: rt does not print {listed.get(name)}", flush=True)
+        self.passed += len(of_round) - len(wrong)
+        self.failed += len(wrong)
+        return not wrong
+
+    def try_crate(self, crate, tried, listed):
+        """Whether all edits of the crate passed."""
+        texts = {edit.file: read(os.path.join(TOP, "crates", crate, edit.file)) for edit in tried}
+        begun, spent = time.monotonic(), processor_minutes()
+        rounds = rounds_of(tried, texts)
+        have_passed = [self.try_round(crate, of_round, texts, listed) for of_round in rounds]
+        print(f"{crate}: {len(tried)} edits in {len(rounds)} rounds, {time.monotonic() - begun:.0f} s, "
+              f"{processor_minutes() - spent:.1f} processor minutes", flush=True)
+        return all(have_passed)
+
+    def try_or_keep(self, crate, tried, listed, is_anew):
+        kept = os.path.join(KEPT, checksum(crate, tried, listed))
+        if os.path.exists(kept) and not is_anew:
+            print(f"{crate}: {len(tried)} edits, kept", flush=True)
+            self.passed += len(tried)
+        elif self.try_crate(crate, tried, listed):
+            os.makedirs(KEPT, exist_ok=True)
+            write(kept, f"{crate}\n")
+
+
+def main():
+    found, listed = edits(), goals_listed()
+    parser = argparse.ArgumentParser(usage=__doc__)
+    parser.add_argument("--anew", action="store_true")
+    parser.add_argument("--minutes", type=float, default=math.inf)
+    parser.add_argument("names", nargs="*")
+    words = parser.parse_args()
+    named = [name for name in found if not words.names or name in words.names or name.split("/")[0] in words.names]
+    if not set(words.names) <= set(named) | {name.split("/")[0] for name in named}:
+        sys.exit(__doc__)
+    if subprocess.run(["git", "-C", TOP, "diff", "--quiet", "HEAD", "--", "crates"]).returncode:
+        sys.exit("try_edits.py: crates/ differs from the last commit")
+    signal.signal(signal.SIGTERM, lambda *_: sys.exit("try_edits.py: ended"))  # and what was edited is put back
+    tally = Tally(words.minutes)
+    for crate in crates_listed():
+        tried = [Edit(name, found[name]) for name in named if name.split("/")[0] == crate]
+        if tried:
+            tally.try_or_keep(crate, tried, listed, words.anew)
+    print(f"{tally.passed} passed, {tally.failed} failed" + (f", {tally.skipped} skipped" if tally.skipped else ""))
+    return tally.failed > 0 or tally.passed + tally.skipped == 0
 
 
 if __name__ == "__main__":
-    sys.exit(main(sys.argv[1:]))
+    sys.exit(main())
