@@ -14,6 +14,7 @@ import argparse, hashlib, math, os, re, resource, signal, subprocess, sys, time
 from edits import TOP, edits, goals_listed
 
 FUNCTION = re.compile(r"^[ \t]*(?:pub(?:\(\w+\))? )?(?:const )?fn \w+", re.M)
+DEFINITION = re.compile(r"\s*(?:pub )?(?:const \w+:|static |ghost (?!use ))")
 PRINTED = re.compile(r"([\w./]+):(\d+):\d+: (.*)")
 NAMED = re.compile(r"\(`([^`]+)|error: `([^`]+)")
 KEPT = os.path.join(os.environ.get("XDG_CACHE_HOME") or os.path.expanduser("~/.cache"), "melissaledge", "edits")
@@ -31,6 +32,9 @@ class Edit:
             elif key == "new":
                 self.pairs.append((old, text))
 
+    def is_of_definition(self):
+        return not self.file.startswith("src/") or any(DEFINITION.match(old) for old, _ in self.pairs)
+
     def functions(self, text):
         """Where the functions begin that it edits, by the sources as they stand; a text before all of them counts as one."""
         starts = [match.start() for match in FUNCTION.finditer(text)]
@@ -41,7 +45,7 @@ def rounds_of(tried, texts):
     """Edits in rounds, of which no two lie in one function. One of a definition may change any goal, so it has a round of its own."""
     rounds = []
     for edit in tried:
-        if not edit.file.startswith("src/"):
+        if edit.is_of_definition():
             rounds.append((None, [edit]))
             continue
         places = edit.functions(texts[edit.file])
