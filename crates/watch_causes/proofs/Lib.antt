@@ -1,0 +1,5 @@
+pub mod Lists
+pub mod Numbering
+pub mod Reasoning
+pub mod WorkedReasons
+pub mod OpenFlushes

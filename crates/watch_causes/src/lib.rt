@@ -1,0 +1,14 @@
+//! The causes of the verdicts on a trace: what one record made stale is a finding, and findings with
+//! the same reason are a cause.
+#![tactic(auto)]
+
+mod fences;
+mod laws;
+mod log;
+mod reason;
+mod reasons;
+mod worked_reasons;
+
+pub use laws::ended_flush_is_the_open_one;
+pub use reason::Reason;
+pub use worked_reasons::{worked_claims, worked_fences, worked_frees};
