@@ -3,3 +3,4 @@ pub mod Numbering
 pub mod Reasoning
 pub mod WorkedReasons
 pub mod OpenFlushes
+pub mod Tallying

@@ -3,12 +3,16 @@
 #![tactic(auto)]
 
 mod fences;
+mod finding;
 mod laws;
 mod log;
 mod reason;
 mod reasons;
+mod tally;
 mod worked_reasons;
 
+pub use finding::Cause;
 pub use laws::ended_flush_is_the_open_one;
 pub use reason::Reason;
+pub use tally::{Example, Tally, Verdicts};
 pub use worked_reasons::{worked_claims, worked_fences, worked_frees};
