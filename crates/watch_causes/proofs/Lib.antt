@@ -4,3 +4,4 @@ pub mod Reasoning
 pub mod WorkedReasons
 pub mod OpenFlushes
 pub mod Tallying
+pub mod Knowing

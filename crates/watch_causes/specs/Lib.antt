@@ -3,3 +3,5 @@ pub mod Logs
 pub mod WorkedReasons
 pub mod Findings
 pub mod Tallies
+pub mod Judging
+pub mod Causes

@@ -2,8 +2,10 @@
 //! the same reason are a cause.
 #![tactic(auto)]
 
+mod causes;
 mod fences;
 mod finding;
+mod findings;
 mod laws;
 mod log;
 mod reason;
@@ -11,6 +13,7 @@ mod reasons;
 mod tally;
 mod worked_reasons;
 
+pub use causes::Causes;
 pub use finding::Cause;
 pub use laws::ended_flush_is_the_open_one;
 pub use reason::Reason;

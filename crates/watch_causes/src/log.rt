@@ -18,7 +18,7 @@ pub(crate) struct Numbered {
 /// The fences and flushes of a trace.
 #[derive(Drop)]
 pub(crate) struct Log {
-    count: u64,
+    pub(crate) count: u64,
     pub(crate) fences: Vec<Numbered>,
     pub(crate) flushes: Vec<Numbered>,
 }
