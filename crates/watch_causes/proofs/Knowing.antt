@@ -6,7 +6,7 @@ use Rattle.std.specs.Ordering.{bool_cmp, is_eq, nat_cmp, ordering_then}
 use Rattle.std.specs.Result.{is_err}
 use Rattle.std.specs.declared.cmp.Ordering.{Ordering}
 use Rattle.std.specs.declared.cmp.Ordering.TheVariants.{Less, Equal, Greater}
-use Rattle.std.proofs.lemmas.Bool.{and_parts, cases_Bool, eqb-true}
+use Rattle.std.proofs.lemmas.Bool.{and_from, and_parts, cases_Bool, eq-eqb, eqb-true}
 use Rattle.std.proofs.lemmas.Bool.Decides.{nat_tests}
 use Rattle.watch.specs.Computed.{is_same}
 use Rattle.watch_causes.specs.declared.finding.Cause.{Cause}
@@ -43,7 +43,7 @@ same-by-order a b =
     (then-of _ _ _ _ (is-same a.level b.level)
     (then-of _ _ _ _ (of-bools a.global b.global) (then-of _ _ _ _ (is-same a.asid b.asid) (is-same a.root b.root))))))
 
-bools-same : (a b : Bool) → is_same a b ≡ true → a ≡ b
+pub bools-same : (a b : Bool) → is_same a b ≡ true → a ≡ b
 bools-same true b is = sym is
 bools-same false true is = is
 bools-same false false is = refl
@@ -66,7 +66,7 @@ same-finding a b is =
 
 -- ---- one more verdict
 
-or-none : {A : Type 0} (o : Option A) → option_or o None ≡ o
+pub or-none : {A : Type 0} (o : Option A) → option_or o None ≡ o
 or-none None = refl
 or-none (Some x) = refl
 
@@ -104,3 +104,28 @@ module _ (verdicts : List Judged) (v : Judged) where
   pub with-known : (o : Option Cause) → cause_of verdicts own ≡ o
       → with_verdict (unwrap_or o (cause_by v)) (is_none o) v (tallies_of verdicts) ≡ tallies_of (v ∷ verdicts)
   with-known o is = sym (ap (λ o. with_verdict (unwrap_or o (cause_by v)) (is_none o) v (tallies_of verdicts)) is)
+
+-- ---- laws
+
+pub cause_stays : (f : Finding) (cause : Cause) (next : Judged) (verdicts : List Judged) → cause_of verdicts f ≡ Some cause → cause_of (next ∷ verdicts) f ≡ Some cause
+cause_stays f cause next verdicts is = ap (λ o. option_or o (begins_by next f)) is
+
+own-cause : (o : Option Cause) (cause : Cause) → option_or o (Some cause) ≡ Some (unwrap_or o cause)
+own-cause None cause = refl
+own-cause (Some c) cause = refl
+
+same-by-refl : (f : Finding) → is_same_finding f f ≡ true
+same-by-refl f =
+    and_from _ _ (eq-eqb f.since f.since refl)
+    (and_from _ _ (eq-eqb f.hart f.hart refl)
+    (and_from _ _ (eq-eqb f.base f.base refl)
+    (and_from _ _ (eq-eqb f.level f.level refl)
+    (and_from _ _ (sym (of-bools f.global f.global) ∙ (elim f.global as (λ b. is_eq (bool_cmp b b) ≡ true) [ true ↦ refl | false ↦ refl ]))
+    (and_from _ _ (eq-eqb f.asid f.asid refl) (eq-eqb f.root f.root refl))))))
+
+pub verdict_has_cause : (next : Judged) (verdicts : List Judged) → cause_of (next ∷ verdicts) (finding_of next.warning) ≡ Some (cause_with next verdicts)
+verdict_has_cause next verdicts =
+    let o : Option Cause = cause_of verdicts (finding_of next.warning) in
+    ap (λ b. option_or o (cond b (Some (cause_by next)) None)) (same-by-refl (finding_of next.warning)) ∙ own-cause o (cause_by next)
+
+pub ruleset causes_of_findings = (cause_stays, verdict_has_cause)

@@ -5,3 +5,4 @@ pub mod WorkedReasons
 pub mod OpenFlushes
 pub mod Tallying
 pub mod Knowing
+pub mod Counted

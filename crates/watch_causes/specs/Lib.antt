@@ -5,3 +5,4 @@ pub mod Findings
 pub mod Tallies
 pub mod Judging
 pub mod Causes
+pub mod Counting

@@ -1,11 +1,18 @@
 //! Laws of the definitions: each function does nothing, and its contract is the law.
 
-ghost use Rattle.std.specs.Prelude.{ℕ, ◌≡◌, ◌+◌, Some, find, length};
+ghost use Rattle.std.specs.Prelude.{ℕ, ◌≡◌, ◌+◌, ◌∷◌, List, Some, find, length, option_map, sum_by};
 ghost use Rattle.std.specs.List.{before_first};
 ghost use Rattle.watch.specs.declared.trace.Claim.{Claim};
 ghost use Rattle.watch.specs.declared.trace.Record.TheVariants as records;
 ghost use Rattle.watch.specs.Trace.{Trace, begins_claim, claim_of};
+ghost use Rattle.watch.specs.declared.trace.Verdict.{Verdict};
 ghost use Rattle.watch_engine.specs.Open.{claim_begun};
+ghost use Rattle.watch_causes.specs.declared.finding.Cause.{Cause};
+ghost use Rattle.watch_causes.specs.declared.finding.Finding.{Finding};
+ghost use Rattle.watch_causes.specs.declared.tally.Tally.{Tally};
+ghost use Rattle.watch_causes.specs.Counting.{example_of, finding_count, findings_in, findings_of, sum_of, verdicts_in, verdicts_of};
+ghost use Rattle.watch_causes.specs.Findings.{Judged, cause_of, cause_with, finding_of};
+ghost use Rattle.watch_causes.specs.Tallies.{is_of, tallies_of};
 
 /// The flush that a record ends is the one that is open under its token: the newest record that
 /// begins one there has its claim, and so many records were made up to it.
@@ -15,4 +22,37 @@ pub fn ended_flush_is_the_open_one()
         → (hart : ℕ)
         × (find (begins_claim token) trace ≡ Some (records.ClaimBegin hart token claim))
         × (length (before_first (begins_claim token) trace) + claim_begun token trace ≡ length trace) }
+{}
+
+/// A finding has one cause, which stays as its first verdict made it; and each verdict is counted to
+/// the cause of its finding.
+#[tactic(auto, using(crate::proofs::Knowing::causes_of_findings))]
+pub fn finding_has_one_cause()
+    ensures stays { (f : Finding) (cause : Cause) (next : Judged) (verdicts : List Judged)
+        → cause_of verdicts f ≡ Some cause → cause_of (next ∷ verdicts) f ≡ Some cause }
+    ensures own { (next : Judged) (verdicts : List Judged)
+        → cause_of (next ∷ verdicts) (finding_of next.warning) ≡ Some (cause_with next verdicts) }
+{}
+
+/// The tally of a cause, if it has one, has its findings, its verdicts of each kind and its first
+/// verdict; a cause with no tally has none.
+#[tactic(auto, using(crate::proofs::Counted::counts))]
+pub fn tallies_count_their_causes()
+    ensures findings { (cause : Cause) (verdicts : List Judged)
+        → findings_in (find (is_of cause) (tallies_of verdicts)) ≡ findings_of cause verdicts }
+    ensures verdicts { (cause : Cause) (kind : Verdict) (verdicts : List Judged)
+        → verdicts_in kind (find (is_of cause) (tallies_of verdicts))
+        ≡ verdicts_of cause kind verdicts }
+    ensures example { (cause : Cause) (verdicts : List Judged)
+        → option_map (λ (t : Tally). t.example) (find (is_of cause) (tallies_of verdicts))
+        ≡ example_of cause verdicts }
+{}
+
+/// The findings of all causes are all findings, and their verdicts all verdicts.
+#[tactic(auto, using(crate::proofs::Counted::sums))]
+pub fn tallies_add_up()
+    ensures findings { (verdicts : List Judged)
+        → sum_by (λ (t : Tally). t.findings) (tallies_of verdicts) ≡ finding_count verdicts }
+    ensures verdicts { (verdicts : List Judged)
+        → sum_by (λ (t : Tally). sum_of t.verdicts) (tallies_of verdicts) ≡ length verdicts }
 {}

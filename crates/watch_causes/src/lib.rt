@@ -15,7 +15,9 @@ mod worked_reasons;
 
 pub use causes::Causes;
 pub use finding::Cause;
-pub use laws::ended_flush_is_the_open_one;
+pub use laws::{
+    ended_flush_is_the_open_one, finding_has_one_cause, tallies_add_up, tallies_count_their_causes,
+};
 pub use reason::Reason;
 pub use tally::{Example, Tally, Verdicts};
 pub use worked_reasons::{worked_claims, worked_fences, worked_frees};
