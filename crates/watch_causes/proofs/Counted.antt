@@ -1,7 +1,6 @@
 -- The tallies have of each cause what the verdicts give.
-use Rattle.std.proofs.Common.{◌≡◌, ◌∙◌, ℕ, Bool, true, false, ◌+◌, List, [], ◌∷◌, Option, Some, None, ap, sym, subst, inl, inr, refl, arith, length, suc}
+use Rattle.std.proofs.Common.{◌≡◌, ◌∙◌, ℕ, Bool, true, false, ◌+◌, List, [], ◌∷◌, Option, Some, None, ap, sym, subst, inl, inr, refl, arith, length}
 use Rattle.std.specs.Prelude.{◌&&◌, ◌==◌, cond, find, sum_by}
-use Rattle.std.specs.List.{AllPairs, list_any}
 use Rattle.std.specs.Option.{option_map, option_or}
 use Rattle.std.proofs.lemmas.Bool.{and_from, and_parts, cases_Bool, eq-eqb, eqb-true}
 use Rattle.std.proofs.lemmas.List.Sums.{sum_by-cons}
@@ -14,7 +13,7 @@ use Rattle.watch_causes.specs.declared.reason.Reason.TheVariants.{NoFlush, NoFen
 use Rattle.watch_causes.specs.declared.tally.Example.{Example}
 use Rattle.watch_causes.specs.declared.tally.Tally.{Tally}
 use Rattle.watch_causes.specs.declared.tally.Verdicts.{Verdicts}
-use Rattle.watch_causes.specs.Counting.{belongs, example_of, finding_count, findings_in, findings_of, of_kind, sum_of, verdicts_in, verdicts_of}
+use Rattle.watch_causes.specs.Counting.{example_of, finding_count, findings_in, findings_of, of_kind, sum_of, verdicts_in, verdicts_of}
 use Rattle.watch_causes.specs.Findings.{Judged, begins_finding, cause_with, is_same_cause, is_same_reason, is_same_verdict, reason_number, verdict_number}
 use Rattle.watch_causes.specs.Tallies.{counted, first_tally, is_of, more_if, no_verdicts, tallied, tallies_of, with_verdict}
 use Rattle.watch_causes.proofs.Knowing.{bools-same, or-none}

@@ -1,5 +1,5 @@
 -- The causes of findings, with one more verdict.
-use Rattle.std.proofs.Common.{◌≡◌, ◌∙◌, ℕ, Bool, true, false, List, [], ◌∷◌, Option, Some, None, ap, sym, subst, inl, inr, refl, arith}
+use Rattle.std.proofs.Common.{◌≡◌, ◌∙◌, ℕ, Bool, true, false, List, ◌∷◌, Option, Some, None, ap, sym, inl, inr, refl, arith}
 use Rattle.std.specs.Prelude.{◌&&◌, ◌==◌, cond, Result, Ok, Err, OnOk}
 use Rattle.std.specs.Option.{is_none, option_or, unwrap_or}
 use Rattle.std.specs.Ordering.{bool_cmp, is_eq, nat_cmp, ordering_then}
@@ -11,8 +11,7 @@ use Rattle.std.proofs.lemmas.Bool.Decides.{nat_tests}
 use Rattle.watch.specs.Computed.{is_same}
 use Rattle.watch_causes.specs.declared.finding.Cause.{Cause}
 use Rattle.watch_causes.specs.declared.finding.Finding.{Finding}
-use Rattle.watch_causes.specs.declared.tally.Tally.{Tally}
-use Rattle.watch_causes.specs.Findings.{Judged, begins_by, cause_by, cause_of, cause_with, begins_finding, finding_cmp, finding_of, is_same_finding}
+use Rattle.watch_causes.specs.Findings.{Judged, begins_by, cause_by, cause_of, cause_with, finding_cmp, finding_of, is_same_finding}
 use Rattle.watch_causes.specs.Tallies.{tallies_of, with_verdict}
 
 pub if-fine : {A E P : Type 0} (r : Result A E) (failed : Bool) → failed ≡ is_err r → failed ≡ false → OnOk r P → P

@@ -6,3 +6,5 @@ pub mod OpenFlushes
 pub mod Tallying
 pub mod Knowing
 pub mod Counted
+pub mod WorkedCauses
+pub mod Apart

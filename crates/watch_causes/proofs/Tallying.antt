@@ -1,5 +1,5 @@
 -- The list of tallies, with one more verdict.
-use Rattle.std.proofs.Common.{◌≡◌, ◌∙◌, ℕ, Bool, true, false, ◌+◌, ◌<◌, ◌≤◌, List, [], ◌∷◌, ◌++◌, Option, Some, None, ap, sym, inl, inr, refl, arith, length, get_or, zero, suc, set}
+use Rattle.std.proofs.Common.{◌≡◌, ◌∙◌, ℕ, Bool, true, false, ◌<◌, ◌≤◌, List, [], ◌∷◌, ◌++◌, Some, None, ap, sym, inl, inr, refl, arith, length, get_or, zero, suc, set}
 use Rattle.std.specs.Prelude.{cond, nat_lt, position}
 use Rattle.std.specs.List.{position_or_len}
 use Rattle.std.proofs.lemmas.Bool.{cases_Bool, ltb-false}

@@ -1,8 +1,6 @@
 -- The causes of the verdicts on a trace.
-use Rattle.std.specs.Prelude.{ℕ, ◌≡◌, List, [], ◌∷◌, length}
+use Rattle.std.specs.Prelude.{◌≡◌, List}
 use Rattle.std.specs.BTreeMap.{get}
-use Rattle.pte.specs.declared.scheme.Scheme.{Scheme}
-use Rattle.watch.specs.declared.trace.Record.{Record}
 use Rattle.watch.specs.Trace.{Trace}
 use Rattle.watch_engine.specs.declared.warning.Warning.{Warning}
 use Rattle.watch_causes.specs.declared.causes.Causes.{Causes}

@@ -1,14 +1,16 @@
 -- How many findings and verdicts there are, of a cause and of all.
-use Rattle.std.specs.Prelude.{ℕ, Bool, ◌+◌, ◌&&◌, if◌then◌else◌, List, [], ◌∷◌, Option, Some, None}
+use Rattle.std.specs.Prelude.{ℕ, Bool, false, ◌≡◌, ◌+◌, ◌&&◌, if◌then◌else◌, List, [], ◌∷◌, Option, Some, None}
+use Rattle.std.specs.List.{list_any}
 use Rattle.std.specs.Option.{option_or}
 use Rattle.watch.specs.declared.trace.Verdict.{Verdict}
 use Rattle.watch.specs.declared.trace.Verdict.TheVariants.{Free, Reuse, Claimed, Used}
+use Rattle.watch_engine.specs.declared.warning.Warning.{Warning}
 use Rattle.watch_causes.specs.declared.finding.Cause.{Cause}
 use Rattle.watch_causes.specs.declared.tally.Example.{Example}
 use Rattle.watch_causes.specs.declared.tally.Tally.{Tally}
 use Rattle.watch_causes.specs.declared.tally.Verdicts.{Verdicts}
 use Rattle.watch_causes.specs.Findings.{Judged, begins_finding, cause_with, is_same_cause, is_same_verdict}
-use Rattle.watch_causes.specs.Tallies.{more_if}
+use Rattle.watch_causes.specs.Tallies.{is_of, more_if}
 
 -- the next verdict belongs to the cause
 abbrev pub belongs : Cause → Judged → List Judged → Bool
@@ -58,3 +60,18 @@ verdicts_in kind (Some t) = of_kind kind t.verdicts
 
 abbrev pub sum_of : Verdicts → ℕ
 sum_of n = n.free + n.reuse + n.claimed + n.used
+
+-- no two of them are of one cause
+abbrev pub AreApart : List Tally → Type 0
+AreApart [] = Unit {0}
+AreApart (t ∷ tallies) = (list_any (is_of t.cause) tallies ≡ false) × AreApart tallies
+
+-- two verdicts of one page, one hart and one record: they agree in this and, if the page is not global,
+-- in its root and its ASID
+pub record AreOfOneFinding (a b : Warning) : Type 0 where
+  pub since : a.stale_since ≡ b.stale_since
+  pub hart : a.hart ≡ b.hart
+  pub page : a.entry.page ≡ b.entry.page
+  pub global : a.entry.global ≡ b.entry.global
+  pub root : a.entry.global ≡ false → a.root ≡ b.root
+  pub asid : a.entry.global ≡ false → a.entry.asid ≡ b.entry.asid

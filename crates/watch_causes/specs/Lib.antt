@@ -6,3 +6,4 @@ pub mod Tallies
 pub mod Judging
 pub mod Causes
 pub mod Counting
+pub mod WorkedCauses

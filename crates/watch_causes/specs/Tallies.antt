@@ -3,7 +3,6 @@ use Rattle.std.specs.Prelude.{ℕ, Bool, true, false, ◌+◌, if◌then◌else�
 use Rattle.watch.specs.declared.trace.Verdict.{Verdict}
 use Rattle.watch.specs.declared.trace.Verdict.TheVariants.{Free, Reuse, Claimed, Used}
 use Rattle.watch_causes.specs.declared.finding.Cause.{Cause}
-use Rattle.watch_causes.specs.declared.tally.Example.{Example}
 use Rattle.watch_causes.specs.declared.tally.Tally.{Tally}
 use Rattle.watch_causes.specs.declared.tally.Verdicts.{Verdicts}
 use Rattle.watch_causes.specs.Findings.{Judged, begins_finding, cause_with, is_same_cause}

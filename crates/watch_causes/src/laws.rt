@@ -1,16 +1,17 @@
 //! Laws of the definitions: each function does nothing, and its contract is the law.
 
-ghost use Rattle.std.specs.Prelude.{ℕ, ◌≡◌, ◌+◌, ◌∷◌, List, Some, find, length, option_map, sum_by};
+ghost use Rattle.std.specs.Prelude.{ℕ, ◌≡◌, ◌+◌, ◌∷◌, ◌↔◌, List, Some, find, length, option_map, sum_by};
 ghost use Rattle.std.specs.List.{before_first};
 ghost use Rattle.watch.specs.declared.trace.Claim.{Claim};
 ghost use Rattle.watch.specs.declared.trace.Record.TheVariants as records;
 ghost use Rattle.watch.specs.Trace.{Trace, begins_claim, claim_of};
 ghost use Rattle.watch.specs.declared.trace.Verdict.{Verdict};
+ghost use Rattle.watch_engine.specs.declared.warning.Warning.{Warning};
 ghost use Rattle.watch_engine.specs.Open.{claim_begun};
 ghost use Rattle.watch_causes.specs.declared.finding.Cause.{Cause};
 ghost use Rattle.watch_causes.specs.declared.finding.Finding.{Finding};
 ghost use Rattle.watch_causes.specs.declared.tally.Tally.{Tally};
-ghost use Rattle.watch_causes.specs.Counting.{example_of, finding_count, findings_in, findings_of, sum_of, verdicts_in, verdicts_of};
+ghost use Rattle.watch_causes.specs.Counting.{AreApart, AreOfOneFinding, example_of, finding_count, findings_in, findings_of, sum_of, verdicts_in, verdicts_of};
 ghost use Rattle.watch_causes.specs.Findings.{Judged, cause_of, cause_with, finding_of};
 ghost use Rattle.watch_causes.specs.Tallies.{is_of, tallies_of};
 
@@ -22,6 +23,13 @@ pub fn ended_flush_is_the_open_one()
         → (hart : ℕ)
         × (find (begins_claim token) trace ≡ Some (records.ClaimBegin hart token claim))
         × (length (before_first (begins_claim token) trace) + claim_begun token trace ≡ length trace) }
+{}
+
+/// A verdict has one finding, and two verdicts have the same exactly if they agree in the record that
+/// made the page stale, the hart, the page and, if it is not global, its root and its ASID.
+#[tactic(auto, using(crate::proofs::Apart::one_finding))]
+pub fn verdict_has_one_finding()
+    ensures { (a b : Warning) → (finding_of a ≡ finding_of b) ↔ AreOfOneFinding a b }
 {}
 
 /// A finding has one cause, which stays as its first verdict made it; and each verdict is counted to
@@ -55,4 +63,10 @@ pub fn tallies_add_up()
         → sum_by (λ (t : Tally). t.findings) (tallies_of verdicts) ≡ finding_count verdicts }
     ensures verdicts { (verdicts : List Judged)
         → sum_by (λ (t : Tally). sum_of t.verdicts) (tallies_of verdicts) ≡ length verdicts }
+{}
+
+/// No cause has two tallies.
+#[tactic(auto, using(crate::proofs::Apart::tallies_apart))]
+pub fn cause_has_one_tally()
+    ensures { (verdicts : List Judged) → AreApart (tallies_of verdicts) }
 {}

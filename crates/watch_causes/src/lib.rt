@@ -12,12 +12,15 @@ mod reason;
 mod reasons;
 mod tally;
 mod worked_reasons;
+mod worked_tallies;
 
 pub use causes::Causes;
 pub use finding::Cause;
 pub use laws::{
-    ended_flush_is_the_open_one, finding_has_one_cause, tallies_add_up, tallies_count_their_causes,
+    cause_has_one_tally, ended_flush_is_the_open_one, finding_has_one_cause, tallies_add_up,
+    tallies_count_their_causes, verdict_has_one_finding,
 };
 pub use reason::Reason;
 pub use tally::{Example, Tally, Verdicts};
 pub use worked_reasons::{worked_claims, worked_fences, worked_frees};
+pub use worked_tallies::{worked_causes, worked_findings};

@@ -78,7 +78,12 @@ impl Verdicts {
 }
 
 impl Tally {
-    fn first(cause: Cause, begins: bool, number: u64, warning: &Warning) -> Result<Tally, AllocError>
+    fn first(
+        cause: Cause,
+        begins: bool,
+        number: u64,
+        warning: &Warning,
+    ) -> Result<Tally, AllocError>
         ensures { (reason : ReasonOf) → IfOk result (λ tally. tally ≡ first_tally cause begins
             (record { number = number; warning = warning.now; reason = reason })) }
     {

@@ -1,7 +1,6 @@
 use Rattle.std.proofs.Common.{◌∙◌, ◌++◌, ◌∷◌, [], List, ap, set, sym}
 use Rattle.std.specs.Prelude.{position}
 use Rattle.std.proofs.lemmas.Result.{on_ok_weaker}
-use Rattle.watch_causes.specs.declared.reason.Reason.{Reason}
 use Rattle.watch_causes.specs.declared.tally.Tally.{Tally}
 use Rattle.watch_causes.specs.Findings.{Judged}
 use Rattle.watch_causes.specs.Tallies.{is_of, tallied}

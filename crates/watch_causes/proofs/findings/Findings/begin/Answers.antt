@@ -18,13 +18,13 @@ returns c = λ verdicts are none.
     (λ done.
     record {
       causes = λ f.
-      updates f
-      ∙ (ap (λ (k : Finding). cond (is_eq (finding_cmp k f)) (Some c.cause_by-cause.result) (get finding_cmp c.args.self.now.causes f)) c.finding_of.ensures
-      ∙ (ap (λ (cause : Cause). cond (is_eq (finding_cmp (finding_of c.args.warning.now) f)) (Some cause) (get finding_cmp c.args.self.now.causes f)) (c.cause_by-cause.ensures c.args.number)
-      ∙ (ap (λ (o : Option Cause). cond (is_eq (finding_cmp (finding_of c.args.warning.now) f)) (Some (cause_by v)) o) (are.causes f) ∙ one-more-cause verdicts v none f)));
+          updates f
+          ∙ (ap (λ (k : Finding). cond (is_eq (finding_cmp k f)) (Some c.cause_by-cause.result) (get finding_cmp c.args.self.now.causes f)) c.finding_of.ensures
+          ∙ (ap (λ (cause : Cause). cond (is_eq (finding_cmp (finding_of c.args.warning.now) f)) (Some cause) (get finding_cmp c.args.self.now.causes f)) (c.cause_by-cause.ensures c.args.number)
+          ∙ (ap (λ (o : Option Cause). cond (is_eq (finding_cmp (finding_of c.args.warning.now) f)) (Some (cause_by v)) o) (are.causes f) ∙ one-more-cause verdicts v none f)));
       tallies =
-      done
-      ∙ (ap (λ (cause : Cause). with_verdict cause true v c.args.self.now.tallies.items) (c.cause_by-cause.ensures c.args.number)
-      ∙ (ap (with_verdict (cause_by v) true v) are.tallies ∙ with-known verdicts v None none));
+          done
+          ∙ (ap (λ (cause : Cause). with_verdict cause true v c.args.self.now.tallies.items) (c.cause_by-cause.ensures c.args.number)
+          ∙ (ap (with_verdict (cause_by v) true v) are.tallies ∙ with-known verdicts v None none));
     })
     (c.count.ensures c.args.reason)

@@ -1,6 +1,5 @@
 use Rattle.std.proofs.Common.{◌≡◌, ◌∙◌, ◌+◌, ◌<◌, ◌∷◌, ℕ, List, ap, arith, drop, get_or, length, sym}
 use Rattle.std.proofs.lemmas.List.{at_drop_more}
-use Rattle.watch.specs.Trace.{Trace}
 use Rattle.watch_engine.specs.declared.warning.Warning.{Warning}
 use Rattle.watch_causes.specs.Findings.{Judged}
 use Rattle.watch_causes.specs.Judging.{judged, judged_after}
@@ -15,7 +14,8 @@ loop-warning-preserved c = λ trace verdicts follows are.
     let low : i < length warnings = omega arith in
     let with : Warning → List Judged = λ w. judged_after c.args.scheme c.args.newest.now trace (judged c.args.scheme c.args.newest.now trace w ∷ before.0) (drop (i + 1) warnings) in
     let step : judged_after c.args.scheme c.args.newest.now trace before.0 (drop i warnings) ≡ with (get_or warnings i w) =
-    at_drop_more (judged_after c.args.scheme c.args.newest.now trace before.0) warnings i w low in
-    ((judged c.args.scheme c.args.newest.now trace w ∷ before.0),
-    (c.in_ok-take.ensures trace before.0 follows before.1),
-    (ap with c.warning-item.is ∙ (sym step ∙ before.2)))
+    at_drop_more (judged_after c.args.scheme c.args.newest.now trace before.0) warnings i w low in (
+      (judged c.args.scheme c.args.newest.now trace w ∷ before.0),
+      (c.in_ok-take.ensures trace before.0 follows before.1),
+      (ap with c.warning-item.is ∙ (sym step ∙ before.2)),
+    )
