@@ -2,18 +2,18 @@
 use Rattle.std.specs.Prelude.{ℕ, Bool, true, false, ◌≡◌, ◌-◌, ◌&&◌, not, nat_lt, if◌then◌else◌}
 use Rattle.std.specs.Prelude.{List, [], ◌∷◌, Option, Some, None, drop, find, length, map, reverse}
 use Rattle.std.specs.List.{list_any, suffix_len}
+use Rattle.pte.specs.declared.scheme.Scheme.{Scheme}
+use Rattle.tlb.specs.declared.store.Entry.{Entry}
 use Rattle.watch.specs.declared.trace.Record.{Record}
 use Rattle.watch.specs.declared.trace.Record.TheVariants.{Fence, RemoteBegin, ClaimBegin, ClaimEnd}
 use Rattle.watch.specs.Trace.{Trace, begins_claim, hart_of}
+use Rattle.watch_engine.specs.declared.warning.Warning.{Warning}
+use Rattle.watch_engine.specs.Warnings.{shown_of}
 use Rattle.watch_causes.specs.declared.log.Numbered.{Numbered}
 use Rattle.watch_causes.specs.declared.log.Log.{Log}
-use Rattle.pte.specs.declared.scheme.Scheme.{Scheme}
-use Rattle.tlb.specs.declared.store.Entry.{Entry}
 use Rattle.watch_causes.specs.declared.reason.Reason.{Reason}
 use Rattle.watch_causes.specs.declared.reason.Reason.TheVariants.{NoFlush, NoFence, OtherHarts, OtherSpaces, OtherPages, NotDone}
-use Rattle.watch_engine.specs.declared.warning.Warning.{Warning}
 use Rattle.watch_causes.specs.Reasons.{asks_others, begins_flush_of, covers, is_asked, is_for, is_of_space}
-use Rattle.watch_engine.specs.Warnings.{shown_of}
 
 abbrev pub asks_for_fence : Record → Bool
 asks_for_fence (Fence hart rs1 rs2) = true

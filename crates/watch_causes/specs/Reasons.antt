@@ -34,7 +34,7 @@ is_for hart (Fence of rs1 rs2) = of == hart
 is_for hart (RemoteBegin of token fence) = names fence hart
 is_for hart _ = false
 
--- it takes out an entry of the address space, if the address is right
+-- by its ASID it takes out the entry, whatever its addresses are
 abbrev pub is_of_space : Scheme → Entry → Record → Bool
 is_of_space scheme e (Fence of rs1 rs2) = is_fenced scheme None rs2 e
 is_of_space scheme e (RemoteBegin of token fence) = is_fenced scheme None fence.asid e
@@ -48,14 +48,15 @@ covers scheme e _ = false
 
 -- ---- what a flush asked for
 
--- a flush of one hart asked for the fence, for another hart: it fences itself or asks others and,
--- if it asks nobody, the other fences by itself, as in the handler of an interrupt
+-- the flush of one hart asked for the fence, where another hart may hold the translation: its hart
+-- fences itself or asks others. If it asks nobody, a fence of the other hart counts too, as that may
+-- be done in the handler of an interrupt
 abbrev pub is_asked : Bool → ℕ → ℕ → Record → Bool
 is_asked others flusher hart made =
     fences_itself flusher made
     || (asks_others flusher made || (not others && fences_itself hart made))
 
--- of the records that were made since it began
+-- all that it asked for, by the records that were made since it began
 abbrev pub asked_by : ℕ → ℕ → List Record → List Record
 asked_by flusher hart made =
     filter (is_asked (list_any (asks_others flusher) made) flusher hart) made
@@ -65,7 +66,7 @@ asked_by flusher hart made =
 abbrev pub none : (Record → Bool) → List Record → Bool
 none test made = not (list_any test made)
 
--- why none of these fences has taken the entry from the hart: the first that holds
+-- why none of these fences has taken the entry from the hart: the first of these that holds
 abbrev pub reason_among : Scheme → ℕ → Entry → List Record → Reason
 reason_among scheme hart e fences =
     if none (λ f. true) fences then NoFence
@@ -94,8 +95,9 @@ begins_flush_of x _ = false
 abbrev pub made_after : ℕ → Trace → List Record
 made_after count trace = take (length trace - count) trace
 
--- The reason of a verdict at the record after the trace: where a flush returns, by that flush, which
--- began under its token; else by the newest flush that began since the translation is stale.
+-- The reason of a verdict at the record after the trace. Where a flush returns, it goes by that flush,
+-- the newest that began under the token; else by the newest flush of the translation that began after
+-- the record that made it stale.
 abbrev pub reason_of : Scheme → Record → Trace → Warning → Reason
 reason_of scheme (ClaimEnd of token) trace w =
     reason_by scheme w.hart w.entry (begins_claim token) trace

@@ -16,8 +16,8 @@ use tlb::Entry;
 use watch::{Claim, Record};
 use watch_engine::Warning;
 
-/// The fences that a flush of one hart asked for, for another hart: among these, if it asked others
-/// or not.
+/// The fences since a flush of one hart began, which may have asked others, where another hart holds a
+/// translation.
 #[derive(Clone, Copy)]
 struct Asked<'a> {
     fences: &'a [Numbered],

@@ -19,7 +19,8 @@ pub struct Verdicts {
     pub used: u64,
 }
 
-/// A verdict, and the number of its record.
+/// A verdict, and the number of its record. `warning.stale_since` is that of the record that made the
+/// page stale.
 #[derive(Clone, Copy, PartialEq, Eq, Debug)]
 pub struct Example {
     pub number: u64,
