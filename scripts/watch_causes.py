@@ -91,11 +91,15 @@ class Trace:
             self.events[hart].append((record, rest[0]))
         elif op == "remote":
             token, mask, addresses, asid = rest
+            if token in open_remotes:
+                open_remotes.pop(token)(None)
             open_remotes[token] = lambda end: self.end_remote(Remote(record, hart, mask, addresses, asid, end))
         elif op == "remote_end" and rest[0] in open_remotes:
             open_remotes.pop(rest[0])(record)
         elif op == "claim":
             token, root, addresses = rest
+            if token in open_flushes:
+                open_flushes.pop(token)(None)
             open_flushes[token] = lambda end: self.end_flush(Flush(record, hart, root, addresses, end))
         elif op == "claim_end" and rest[0] in open_flushes:
             open_flushes.pop(rest[0])(record)
