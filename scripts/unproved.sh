@@ -105,9 +105,17 @@ named() {
     esac
 }
 
+# The same of the line on standard error, which begins with the file's name at a wrong line of a trace.
+named_fault() {
+    case $1 in
+    watch) NAME=$file awk '{ if (index($0, "case:") == 1) print ENVIRON["NAME"] substr($0, 5); else print }' ;;
+    *) cat ;;
+    esac
+}
+
 print_answer() {
     named "$2" <"$1/$2.out"
-    cat "$1/$2.err" >&2
+    named_fault "$2" <"$1/$2.err" >&2
     status=$(cat "$1/$2.status")
     fault_hint "$2" "$file" "$status"
     exit "$status"

@@ -36,7 +36,7 @@ module _ (meaning : Meaning) (file bytes : List ℕ) (out_old out_new err_old er
   done_by no_memory told suits leaves is status tells = absurd (no_status 0 no_memory told (λ e. omega (arith, e)) (λ e. omega (arith, e)) is status)
   done_by no_thread told suits leaves is status tells = absurd (no_status 0 no_thread told (λ e. omega (arith, e)) (λ e. omega (arith, e)) is status)
   done_by warned told suits leaves is status tells = absurd suits
-  done_by (wrong_line number) told suits leaves is status tells = absurd suits
+  done_by (wrong_line number fault some) told suits leaves is status tells = absurd suits
 
   of_failure : (failure : Failure) (ending told : Ending) → error_line file ending ≡ error_line file (refused failure) → file_fault meaning bytes ≡ Some failure → (told ≡ ending) ⊎ (told ≡ no_memory)
       → 3 ≡ status_of told → AppendsFront err_old err_new (error_line file told)
@@ -57,7 +57,7 @@ module _ (meaning : Meaning) (file bytes : List ℕ) (out_old out_new err_old er
   refused_by no_memory told suits is status tells = absurd (no_status 3 no_memory told (λ e. omega (arith, e)) (λ e. omega (arith, e)) is status)
   refused_by no_thread told suits is status tells = absurd (no_status 3 no_thread told (λ e. omega (arith, e)) (λ e. omega (arith, e)) is status)
   refused_by warned told suits is status tells = absurd suits
-  refused_by (wrong_line number) told suits is status tells = absurd suits
+  refused_by (wrong_line number fault some) told suits is status tells = absurd suits
 
 -- ---- endings that are written out
 

@@ -27,7 +27,7 @@ unread meaning left troubles.Unreadable h = let any = some_bytes left in (any.0,
 unread meaning None troubles.TooLarge h = let long = long_bytes most_bytes in (long.0, tt, λ old new kept. record { suits = long.1; leaves = kept })
 unread meaning (Some bytes) troubles.TooLarge h = (bytes, refl, λ old new kept. record { suits = h; leaves = kept })
 unread meaning left troubles.NoThread h = absurd h
-unread meaning left (troubles.Line number) h = absurd h
+unread meaning left (troubles.Line number fault some) h = absurd h
 unread meaning left (troubles.Refused fault) h =
     let any = some_bytes left in
     subst (λ f. (bytes : List ℕ) × AreLeft left bytes × IsAnswered meaning bytes (Err (troubles.Refused f))) (sym h) (any.0, any.1, λ old new kept. record { suits = tt; leaves = kept })
@@ -38,7 +38,7 @@ told_itself troubles.Usage = inl refl
 told_itself troubles.Unreadable = inl refl
 told_itself troubles.TooLarge = inl refl
 told_itself troubles.NoThread = inl refl
-told_itself (troubles.Line number) = inl refl
+told_itself (troubles.Line number fault some) = inl refl
 told_itself (troubles.Refused faults.NotToml) = inl refl
 told_itself (troubles.Refused (faults.Key name)) = inl refl
 told_itself (troubles.Refused faults.Layout) = inl refl
@@ -53,7 +53,7 @@ told_memory troubles.Usage = inr refl
 told_memory troubles.Unreadable = inr refl
 told_memory troubles.TooLarge = inr refl
 told_memory troubles.NoThread = inr refl
-told_memory (troubles.Line number) = inr refl
+told_memory (troubles.Line number fault some) = inr refl
 told_memory (troubles.Refused faults.NotToml) = inr refl
 told_memory (troubles.Refused (faults.Key name)) = inr refl
 told_memory (troubles.Refused faults.Layout) = inr refl
@@ -102,7 +102,7 @@ silent_by meaning bytes output_failed told old new quiet suits (inr is) refused_
 silent_by meaning bytes no_memory told old new quiet suits is refused_so h = h
 silent_by meaning bytes no_thread told old new quiet suits is refused_so h = h
 silent_by meaning bytes warned told old new quiet suits is refused_so h = absurd suits
-silent_by meaning bytes (wrong_line number) told old new quiet suits is refused_so h = absurd suits
+silent_by meaning bytes (wrong_line number fault some) told old new quiet suits is refused_so h = absurd suits
 
 pub silent : (meaning : Meaning) → ¬ meaning.Explains → (file : List ℕ) (left : Option (List ℕ)) (status : ℕ) (out_old out_new err_old err_new : Option (List ℕ))
     → (bytes : List ℕ) × AreLeft left bytes × Ends meaning file bytes status out_old out_new err_old err_new → (status ≡ 2) ⊎ (status ≡ 3) → Keeps out_old out_new

@@ -1,11 +1,13 @@
 -- How a command ends, by its status.
-use Rattle.std.specs.Prelude.{◌≡◌, ℕ, ◌<◌, ◌≤◌, ◌⊎◌, ◌++◌, List, [], length, codes, string_bytes, Option, Some, None, if◌then◌else◌}
+use Rattle.std.specs.Prelude.{◌≡◌, ℕ, Bool, ◌<◌, ◌≤◌, ◌⊎◌, ◌++◌, List, [], length, codes, string_bytes, Option, Some, None, if◌then◌else◌}
 use Rattle.std.specs.Fmt.{decimal}
 use Rattle.std.specs.Io.KnownBytes.{Keeps}
 use Rattle.scenario.specs.declared.trouble.Trouble.{Trouble}
 use Rattle.scenario.specs.declared.trouble.Trouble.TheVariants as troubles
 use Rattle.files.specs.declared.fault.Fault.{Fault}
 use Rattle.files.specs.declared.fault.Fault.TheVariants as faults
+use Rattle.watch_report.specs.declared.line_fault.LineFault.{LineFault}
+use Rattle.watch_report.specs.ReasonTexts.{line_fault_text}
 use Rattle.files.specs.Faults.{Failure, not_toml, wrong_key, bad_layout, too_many, wrong_step, wrong_script, failure_text}
 use Rattle.scenario.specs.Commands.{Meaning}
 use Rattle.scenario.specs.Output.{AppendsFront, WritesAll, WritesFront}
@@ -36,7 +38,7 @@ pub data Ending : Type 0 where
   no_memory : Ending
   no_thread : Ending
   warned : Ending
-  wrong_line : ℕ → Ending
+  wrong_line : ℕ → LineFault → Bool → Ending
 
 abbrev pub failure_status : Failure → ℕ
 failure_status not_toml = 2
@@ -54,7 +56,7 @@ status_of output_failed = 4
 status_of no_memory = 5
 status_of no_thread = 5
 status_of warned = 1
-status_of (wrong_line number) = 3
+status_of (wrong_line number fault warned) = if warned then 1 else 3
 
 abbrev pub reason : List ℕ → Ending → List ℕ
 reason file done = []
@@ -68,14 +70,16 @@ reason file output_failed = codes "output failed"
 reason file no_memory = codes "no memory"
 reason file no_thread = codes "no thread"
 reason file warned = []
-reason file (wrong_line number) =
-    codes "line " ++ decimal number ++ codes ": not a line of a trace"
+reason file (wrong_line number fault warned) =
+    file ++ codes ":" ++ decimal number ++ codes ":" ++ line_fault_text fault
 
--- the line on standard error
+-- the line on standard error: of a wrong line as compilers write it
 abbrev pub error_line : List ℕ → Ending → List ℕ
 error_line file done = []
 error_line file stale_used = []
 error_line file warned = []
+error_line file (wrong_line number fault warned) =
+    reason file (wrong_line number fault warned) ++ codes "\n"
 error_line file ending = codes "svsim: " ++ reason file ending ++ codes "\n"
 
 -- of a file named `f`, an ending has this status and this line
@@ -101,7 +105,7 @@ Suits meaning bytes no_memory = Unit {0}
 Suits meaning bytes no_thread = meaning.StartsThreads × (length bytes ≤ most_bytes)
     × (file_fault meaning bytes ≡ None)
 Suits meaning bytes warned = ⊥
-Suits meaning bytes (wrong_line number) = ⊥
+Suits meaning bytes (wrong_line number fault warned) = ⊥
 
 -- what was written of the lines: all, a beginning, or nothing
 abbrev pub Leaves : (List ℕ → Type 0) → Ending → Option (List ℕ) → Option (List ℕ) → Type 0
@@ -157,5 +161,5 @@ ending_of troubles.Usage = misused
 ending_of troubles.Unreadable = unreadable
 ending_of troubles.TooLarge = too_large
 ending_of troubles.NoThread = no_thread
-ending_of (troubles.Line number) = wrong_line number
+ending_of (troubles.Line number fault warned) = wrong_line number fault warned
 ending_of (troubles.Refused fault) = ending_of_fault fault

@@ -24,6 +24,9 @@ pub(crate) const DONE: u8 = 0;
 /// A stale mapping answered an access.
 const STALE_USED: u8 = 1;
 
+/// There is a verdict.
+pub(crate) const WARNED: u8 = 1;
+
 const NOT_READ: u8 = 2;
 
 const REFUSED: u8 = 3;
@@ -43,7 +46,8 @@ fn status(trouble: &Trouble) -> u8
         | Trouble::Refused(Fault::NotToml) => NOT_READ,
         Trouble::Refused(Fault::Output) => OUTPUT_FAILED,
         Trouble::NoThread | Trouble::Refused(Fault::NoMemory) => NO_MEMORY,
-        Trouble::Line(_) | Trouble::Refused(_) => REFUSED,
+        Trouble::Line { warned: true, .. } => WARNED,
+        Trouble::Line { warned: false, .. } | Trouble::Refused(_) => REFUSED,
     }
 }
 
@@ -53,10 +57,12 @@ fn error_text(alloc: Global, file: &str, trouble: &Trouble) -> Result<String, Al
         ≡ error_line file.now (ending_of trouble.now)) }
 {
     let mut text = String::new(alloc);
-    if matches!(trouble, Trouble::Unreadable) {
-        writeln!(text, "svsim: cannot read {file}")?;
-    } else {
-        writeln!(text, "svsim: {trouble}")?;
+    match trouble {
+        Trouble::Unreadable => writeln!(text, "svsim: cannot read {file}")?,
+        Trouble::Line { number, fault, .. } => writeln!(text, "{file}:{number}:{fault}")?,
+        Trouble::Usage | Trouble::TooLarge | Trouble::NoThread | Trouble::Refused(_) => {
+            writeln!(text, "svsim: {trouble}")?
+        }
     }
     Ok(text)
 }

@@ -8,6 +8,7 @@ use files::Fault;
 use std::alloc::AllocError;
 use std::error::Error;
 use std::fmt;
+use watch_report::LineFault;
 
 /// Why a command was not done. `Display` is the text that `svsim` prints, without the file's name.
 #[derive(Debug, Drop)]
@@ -18,8 +19,12 @@ pub enum Trouble {
     TooLarge,
     /// A thread could not be started.
     NoThread,
-    /// The line of this number is none of a trace.
-    Line(u64),
+    /// The line of this number is none of a trace. Whether there is a verdict on the records before it.
+    Line {
+        number: u64,
+        fault: LineFault,
+        warned: bool,
+    },
     Refused(Fault),
 }
 
@@ -36,7 +41,7 @@ impl fmt::Display for Trouble {
             Trouble::Unreadable => f.write_str("cannot read FILE"),
             Trouble::TooLarge => f.write_str("file too large"),
             Trouble::NoThread => f.write_str("no thread"),
-            Trouble::Line(number) => write!(f, "line {number}: not a line of a trace"),
+            Trouble::Line { number, fault, .. } => write!(f, "FILE:{number}:{fault}"),
             Trouble::Refused(fault) => write!(f, "{fault}"),
         }
     }

@@ -4,34 +4,39 @@ ghost use Rattle.scenario.specs.Command.{ending_of};
 ghost use Rattle.scenario.specs.Input.{AreLeft};
 ghost use Rattle.scenario.specs.Watches.{ending_of_report, EndsWatch};
 
-use crate::program::{DONE, report};
+use crate::program::{DONE, WARNED, report};
 use crate::trouble::Trouble;
 use files::Fault;
 use std::alloc::Global;
 use std::io::{Read, Write};
 use watch_report::{ReportFault, report_trace};
 
-/// There is a verdict.
-const WARNED: u8 = 1;
-
 fn trouble_of(fault: ReportFault) -> Trouble
     ensures { ending_of result ≡ ending_of_report (Err fault) }
 {
     match fault {
         ReportFault::Unreadable => Trouble::Unreadable,
-        ReportFault::Line(number) => Trouble::Line(number),
+        ReportFault::Line {
+            number,
+            fault,
+            warned,
+        } => Trouble::Line {
+            number,
+            fault,
+            warned,
+        },
         ReportFault::Output => Trouble::Refused(Fault::Output),
         ReportFault::NoMemory => Trouble::Refused(Fault::NoMemory),
     }
 }
 
-/// Does `watch` on the trace that `input` reads, and answers the status of the program: 0 done,
-/// without a verdict, 1 done, with some, 2 not read, 3 a line that is none of a trace, 4 the output
-/// failed, 5 out of memory. The line of a verdict goes to `out` as soon as its record is read, and
-/// stays at 2 to 5; then one line goes to `err`, as far as it takes it; its own faults count for
-/// nothing. `file` is the trace's name in the line. A trace and its lines may have any length. A read
-/// that fails is `cannot read`, but for want of memory; one that a signal interrupts is tried again
-/// (`read_retrying`).
+/// Does `watch` on the trace that `input` reads, and answers the status of the program: 0 without a
+/// verdict, 1 with some, 2 not read, 3 a line that is none of a trace and no verdict before it, 4 the
+/// output failed, 5 out of memory. The line of a verdict goes to `out` as soon as its record is read, and
+/// stays at 2 to 5. At a wrong line, whose status is 1 or 3, the counts so far come last. At 2 to 5 and
+/// at a wrong line one line goes to `err`, as far as it takes it; its own faults count for nothing. `file`
+/// is the trace's name in the line. A trace and its lines may have any length. A read that fails is
+/// `cannot read`, but for want of memory; one that a signal interrupts is tried again (`read_retrying`).
 pub fn watch_command<R: Read + Drop, W: Write, E: Write>(
     alloc: Global,
     file: &str,

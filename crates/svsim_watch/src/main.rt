@@ -15,7 +15,7 @@ const DONE: u8 = 0;
 /// There is a verdict.
 const WARNED: u8 = 1;
 
-/// A line is none of a trace.
+/// A line is none of a trace, and there is no verdict before it.
 const REFUSED: u8 = 3;
 
 /// The whole program has to answer.
@@ -24,14 +24,18 @@ const NO_ANSWER: u8 = 6;
 /// Reports the trace that the first word names, and answers the status.
 fn answer(rt: &HostRuntime) -> Option<u8> {
     let words: Vec<String> = env::args(rt).ok()?.collect(rt.alloc()).ok()?;
-    let trace = fs::open(rt, words.get(1)?.as_str()).ok()?;
+    let file = words.get(1)?.as_str();
+    let trace = fs::open(rt, file).ok()?;
     match report_trace(rt.alloc(), trace, &mut rt.stdout()) {
         Ok(false) => Some(DONE),
         Ok(true) => Some(WARNED),
-        Err(ReportFault::Line(number)) => {
-            let fault = ReportFault::Line(number);
-            eprintln!(rt; "svsim: {fault}").ok()?;
-            Some(REFUSED)
+        Err(ReportFault::Line {
+            number,
+            fault,
+            warned,
+        }) => {
+            eprintln!(rt; "{file}:{number}:{fault}").ok()?;
+            Some(if warned { WARNED } else { REFUSED })
         }
         Err(ReportFault::Unreadable | ReportFault::Output | ReportFault::NoMemory) => None,
     }

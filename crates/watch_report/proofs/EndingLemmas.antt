@@ -1,18 +1,23 @@
 -- How the report of a trace ends.
-use Rattle.std.proofs.Common.{◌≡◌, inl, inr, ℕ, ◌+◌, Bool, true, false, List, [], ◌∷◌, ◌++◌, length, drop, Option, Some, None, IfSome, Result, Ok, Err, IfOk, IfErr, get_or, cond, nat_lt, option_map, refl, sym, ap, subst, ◌∙◌, arith, append_assoc, append-nil, length-append}
+use Rattle.std.proofs.Common.{◌≡◌, inl, inr, ℕ, ◌+◌, ◌-◌, Bool, true, false, List, [], ◌∷◌, ◌++◌, length, drop, Option, Some, None, IfSome, is_none, Result, Ok, Err, get_or, cond, nat_lt, option_map, refl, sym, ap, subst, ◌∙◌, arith, append_assoc, append-nil, length-append}
 use Rattle.std.specs.List.{position_or_len}
 use Rattle.std.proofs.KnownBytes.{Appends-nil}
+use Rattle.std.proofs.lemmas.Bool.{false≢true}
 use Rattle.std.proofs.lemmas.Bool.Decides.{nat_tests}
+use Rattle.std.proofs.lemmas.List.{get_or_at}
 use Rattle.watch_report.specs.declared.header.Header.{Header}
-use Rattle.watch_report.specs.Fields.{fields_of}
-use Rattle.watch_report.specs.TraceLines.{header_in, line_in}
+use Rattle.watch_report.specs.LineFaults.{fault_of, header_fault}
+use Rattle.watch_report.specs.TraceLines.{LineText, line_in}
 use Rattle.watch_report.specs.declared.fault.ReportFault.{ReportFault}
-use Rattle.watch_report.specs.declared.fault.ReportFault.TheVariants.{Unreadable, Line, Output, NoMemory}
+use Rattle.watch_report.specs.declared.fault.ReportFault.TheVariants as reported
+use Rattle.watch_report.specs.declared.line_fault.LineFault.{LineFault}
+use Rattle.watch_report.specs.declared.reading_fault.ReadingFault.{ReadingFault}
+use Rattle.watch_report.specs.declared.reading_fault.ReadingFault.TheVariants.{Unreadable, Output, NoMemory}
 use Rattle.watch_report.specs.declared.reading.Reading.{Reading}
-use Rattle.watch_report.specs.Ending.{Ends, EndsBy, Tells}
+use Rattle.watch_report.specs.Ending.{Ends, EndsBy, IsLine, Tells}
 use Rattle.watch_report.specs.Output.{WritesAll, WritesFront}
-use Rattle.watch_report.specs.Reading.{FailsAtEnd, FailsAtLine, IsReadFault, Stands}
-use Rattle.watch_report.specs.TraceText.{Noted, body_of, faulty_line, has_no_form, header_of, lines_of, with_record}
+use Rattle.watch_report.specs.Reading.{FailsAtEnd, FailsAtLine, IsReadFault, Stands, report_fault_of}
+use Rattle.watch_report.specs.TraceText.{Noted, body_of, fault_in, faulty_line, has_no_form, header_of, lines_of, records_of, said_first, with_record}
 use Rattle.watch_report.specs.VerdictLines.{VerdictText, WholeText, verdict_lines}
 use Rattle.watch_report.proofs.ReadLemmas.{AreTaken, IsText, all_formed, more_taken, records_of_all, records_of_front, stops}
 
@@ -24,117 +29,165 @@ written_of start out header records r e at =
     subst (λ (h : Header). WritesAll (VerdictText h.scheme records) start out) e (verdict_lines records at.given, (at.given, at.seen.are, refl), at.written)
 
 pub ends_within : (header : Header) (read tail : List (List ℕ)) (records : List Noted) (start out : Option (List ℕ)) → AreTaken header read records → WritesAll (VerdictText header.scheme records) start out
-    → EndsBy (Some header) (read ++ tail) (Err NoMemory) start out
+    → EndsBy (Ok header) (read ++ tail) (Err reported.NoMemory) start out
 ends_within header read tail records start out at written =
     (read, tail, refl, subst (λ (r : List Noted). WritesAll (VerdictText header.scheme r) start out) (sym (records_of_all header read records at)) written)
 
 -- at a line that was not read
-pub ends_unread : (fault : ReportFault) (header : Header) (read tail : List (List ℕ)) (records : List Noted) (start out : Option (List ℕ)) → IsReadFault fault → AreTaken header read records
-    → WritesAll (VerdictText header.scheme records) start out → EndsBy (Some header) (read ++ tail) (Err fault) start out
+pub ends_unread : (fault : ReadingFault) (header : Header) (read tail : List (List ℕ)) (records : List Noted) (start out : Option (List ℕ)) → IsReadFault fault → AreTaken header read records
+    → WritesAll (VerdictText header.scheme records) start out → EndsBy (Ok header) (read ++ tail) (Err (report_fault_of fault)) start out
 ends_unread Unreadable header read tail records start out is at written = ends_within header read tail records start out at written
-ends_unread (Line n) header read tail records start out is at written = absurd is
 ends_unread Output header read tail records start out is at written = absurd is
 ends_unread NoMemory header read tail records start out is at written = ends_within header read tail records start out at written
 
-faulty_at : (header : Header) (read tail : List (List ℕ)) (line : List ℕ) (records : List Noted) → AreTaken header read records → has_no_form header line ≡ true
-    → faulty_line (Some header) (read ++ line ∷ tail) ≡ Some (length read + 2)
-faulty_at header read tail line records at none =
-    let place : position_or_len (has_no_form header) (read ++ line ∷ tail) ≡ length read = omega (arith, at.formed (line ∷ tail), stops (has_no_form header) line tail none) in
-    let less : nat_lt (length read) (length (read ++ line ∷ tail)) ≡ true = grind (arith, nat_tests, length-append read (line ∷ tail)) in
-    ap (λ n. option_map (λ k. k + 2) (cond (nat_lt n (length (read ++ line ∷ tail))) (Some n) None)) place
-    ∙ ap (λ b. option_map (λ k. k + 2) (cond b (Some (length read)) None)) less
-
 -- at a line that was read
-pub ends_at_line : (fault : ReportFault) (header : Header) (number : ℕ) (read tail : List (List ℕ)) (line : List ℕ) (records : List Noted) (start out : Option (List ℕ)) → number ≡ length read + 2
-    → AreTaken header read records → FailsAtLine fault header number line records start out → EndsBy (Some header) (read ++ line ∷ tail) (Err fault) start out
-ends_at_line Unreadable header number read tail line records start out e at fails = absurd fails
-ends_at_line (Line n) header number read tail line records start out e at fails =
-    let none : has_no_form header line ≡ true = fails.1 in (
-      faulty_at header read tail line records at none ∙ ap Some (sym (fails.0 ∙ e)),
-      subst (λ (r : List Noted). WritesAll (VerdictText header.scheme r) start out) (sym (records_of_front header read (line ∷ tail) records at (stops (has_no_form header) line tail none))) fails.2,
-    )
-ends_at_line Output header number read tail line records start out e at fails =
+pub ends_at_line : (fault : ReadingFault) (header : Header) (read tail : List (List ℕ)) (line : List ℕ) (records : List Noted) (start out : Option (List ℕ))
+    → AreTaken header read records → FailsAtLine fault header line records start out → EndsBy (Ok header) (read ++ line ∷ tail) (Err (report_fault_of fault)) start out
+ends_at_line Unreadable header read tail line records start out at fails = absurd fails
+ends_at_line Output header read tail line records start out at fails =
     inl (
       read ++ line ∷ [],
       tail,
       append_assoc read (line ∷ []) tail,
       subst (λ (r : List Noted). WritesFront (VerdictText header.scheme r) start out) (sym (records_of_all header (read ++ line ∷ []) _ (more_taken header read line records at fails.0))) fails.1,
     )
-ends_at_line NoMemory header number read tail line records start out e at fails = ends_within header read (line ∷ tail) records start out at fails
+ends_at_line NoMemory header read tail line records start out at fails = ends_within header read (line ∷ tail) records start out at fails
 
-faultless : (header : Header) (lines : List (List ℕ)) (records : List Noted) → AreTaken header lines records → faulty_line (Some header) lines ≡ None
+-- ---- at a line that has no form
+
+faulty_at : (header : Header) (read tail : List (List ℕ)) (line : List ℕ) (records : List Noted) → AreTaken header read records → has_no_form header line ≡ true
+    → faulty_line (Ok header) (read ++ line ∷ tail) ≡ Some (length read + 2)
+faulty_at header read tail line records at none =
+    let place : position_or_len (has_no_form header) (read ++ line ∷ tail) ≡ length read = omega (arith, at.formed (line ∷ tail), stops (has_no_form header) line tail none) in
+    let less : nat_lt (length read) (length (read ++ line ∷ tail)) ≡ true = grind (arith, nat_tests, length-append read (line ∷ tail)) in
+    ap (λ n. option_map (λ k. k + 2) (cond (nat_lt n (length (read ++ line ∷ tail))) (Some n) None)) place
+    ∙ ap (λ b. option_map (λ k. k + 2) (cond b (Some (length read)) None)) less
+
+line_at : (read tail : List (List ℕ)) (line : List ℕ) (place : ℕ) → place ≡ length read → get_or (read ++ line ∷ tail) place [] ≡ line
+line_at read tail line place e = get_or_at read line tail [] place (sym e)
+
+-- the lines before it have these records
+front_told : (header : Header) (read tail : List (List ℕ)) (line : List ℕ) (records : List Noted) (Told : List Noted → Type 0) → AreTaken header read records → has_no_form header line ≡ true → Told records
+    → Told (records_of header (read ++ line ∷ tail))
+front_told header read tail line records Told at none told =
+    subst Told (sym (records_of_front header read (line ∷ tail) records at (stops (has_no_form header) line tail none))) told
+
+pub ends_at_fault : (r : ReportFault) (header : Header) (number : ℕ) (read tail : List (List ℕ)) (line : List ℕ) (records : List Noted) (some : Bool) (start out : Option (List ℕ)) → number ≡ length read + 2
+    → AreTaken header read records → has_no_form header line ≡ true → IsLine number (fault_of header line) some r → WritesAll (WholeText header.scheme records some) start out
+    → EndsBy (Ok header) (read ++ line ∷ tail) (Err r) start out
+ends_at_fault reported.Unreadable header number read tail line records some start out e at none is written = absurd is
+ends_at_fault reported.Output header number read tail line records some start out e at none is written = absurd is
+ends_at_fault reported.NoMemory header number read tail line records some start out e at none is written = absurd is
+ends_at_fault (reported.Line n fault warned) header number read tail line records some start out e at none is written =
+    let place : n - 2 ≡ length read = omega (arith, e, is.0) in (
+      faulty_at header read tail line records at none ∙ ap Some (sym (is.0 ∙ e)),
+      ap (fault_of header) (line_at read tail line (n - 2) place) ∙ is.1,
+      front_told header read tail line records (λ (r : List Noted). WritesAll (WholeText header.scheme r warned) start out) at none
+      (subst (λ (b : Bool). WritesAll (WholeText header.scheme records b) start out) (sym is.2) written),
+    )
+
+-- and the last line was not written
+pub ends_unfinished : (fault : ReadingFault) (header : Header) (read tail : List (List ℕ)) (line : List ℕ) (records : List Noted) (start out : Option (List ℕ))
+    → AreTaken header read records → has_no_form header line ≡ true → FailsAtEnd fault header.scheme records start out → EndsBy (Ok header) (read ++ line ∷ tail) (Err (report_fault_of fault)) start out
+ends_unfinished Unreadable header read tail line records start out at none fails = absurd fails
+ends_unfinished Output header read tail line records start out at none fails =
+    inr (fails.0, front_told header read tail line records (λ (r : List Noted). WritesFront (WholeText header.scheme r fails.0) start out) at none fails.1)
+ends_unfinished NoMemory header read tail line records start out at none fails = ends_within header read (line ∷ tail) records start out at fails
+
+-- ---- at the end
+
+faultless : (header : Header) (lines : List (List ℕ)) (records : List Noted) → AreTaken header lines records → faulty_line (Ok header) lines ≡ None
 faultless header lines records at =
     let most : nat_lt (length lines) (length lines) ≡ false = grind (arith, nat_tests) in
     ap (λ n. option_map (λ k. k + 2) (cond (nat_lt n (length lines)) (Some n) None)) (all_formed header lines records at)
     ∙ ap (λ b. option_map (λ k. k + 2) (cond b (Some (length lines)) None)) most
 
--- at the end
-ends_at_end : (r : Result Bool ReportFault) (header : Header) (lines : List (List ℕ)) (records : List Noted) (start out : Option (List ℕ)) → AreTaken header lines records
-    → IfOk r (λ some. WritesAll (WholeText header.scheme records some) start out) → IfErr r (λ fault. FailsAtEnd fault header.scheme records start out) → EndsBy (Some header) lines r start out
-ends_at_end (Ok some) header lines records start out at ok err =
-    (faultless header lines records at, subst (λ (r : List Noted). WritesAll (WholeText header.scheme r some) start out) (sym (records_of_all header lines records at)) ok)
-ends_at_end (Err Unreadable) header lines records start out at ok err = absurd err
-ends_at_end (Err (Line n)) header lines records start out at ok err = absurd err
-ends_at_end (Err Output) header lines records start out at ok err =
-    inr (faultless header lines records at, (err.0, subst (λ (r : List Noted). WritesFront (WholeText header.scheme r err.0) start out) (sym (records_of_all header lines records at)) err.1))
-ends_at_end (Err NoMemory) header lines records start out at ok err =
-    subst (λ (l : List (List ℕ)). EndsBy (Some header) l (Err NoMemory) start out) (append-nil lines) (ends_within header lines [] records start out at err)
+pub ends_done : (some : Bool) (header : Header) (lines : List (List ℕ)) (records : List Noted) (start out : Option (List ℕ)) → AreTaken header lines records
+    → WritesAll (WholeText header.scheme records some) start out → EndsBy (Ok header) lines (Ok some) start out
+ends_done some header lines records start out at written =
+    (faultless header lines records at, subst (λ (r : List Noted). WritesAll (WholeText header.scheme r some) start out) (sym (records_of_all header lines records at)) written)
+
+pub ends_undone : (fault : ReadingFault) (header : Header) (lines : List (List ℕ)) (records : List Noted) (start out : Option (List ℕ)) → AreTaken header lines records
+    → FailsAtEnd fault header.scheme records start out → EndsBy (Ok header) lines (Err (report_fault_of fault)) start out
+ends_undone Unreadable header lines records start out at fails = absurd fails
+ends_undone Output header lines records start out at fails =
+    inr (fails.0, subst (λ (r : List Noted). WritesFront (WholeText header.scheme r fails.0) start out) (sym (records_of_all header lines records at)) fails.1)
+ends_undone NoMemory header lines records start out at fails =
+    subst (λ (l : List (List ℕ)). EndsBy (Ok header) l (Err reported.NoMemory) start out) (append-nil lines) (ends_within header lines [] records start out at fails)
 
 -- ---- what a step says, of the header and of the line that it was called for
 
+pub formed_line : (b : Bool) (old header : Header) (given line : List ℕ) → old ≡ header → given ≡ line → has_no_form old given ≡ b → has_no_form header line ≡ b
+formed_line b old header given line e f is =
+    subst (λ (h : Header). has_no_form h line ≡ b) e (subst (λ (l : List ℕ). has_no_form old l ≡ b) f is)
+
 pub took_line : (old header : Header) (given line : List ℕ) (records : List Noted) (start out : Option (List ℕ)) (r : Reading) → old ≡ header → given ≡ line
-    → (has_no_form old given ≡ false) × Stands start out (with_record (line_in old given) records) r → (has_no_form header line ≡ false) × Stands start out (with_record (line_in header line) records) r
+    → Stands start out (with_record (line_in old given) records) r → Stands start out (with_record (line_in header line) records) r
 took_line old header given line records start out r e f took =
-    subst (λ (h : Header). (has_no_form h line ≡ false) × Stands start out (with_record (line_in h line) records) r) e
-    (subst (λ (l : List ℕ). (has_no_form old l ≡ false) × Stands start out (with_record (line_in old l) records) r) f took)
+    subst (λ (h : Header). Stands start out (with_record (line_in h line) records) r) e
+    (subst (λ (l : List ℕ). Stands start out (with_record (line_in old l) records) r) f took)
 
-pub failed_line : (fault : ReportFault) (old header : Header) (number : ℕ) (given line : List ℕ) (records : List Noted) (start out : Option (List ℕ)) → old ≡ header → given ≡ line
-    → FailsAtLine fault old number given records start out → FailsAtLine fault header number line records start out
-failed_line fault old header number given line records start out e f fails =
-    subst (λ (h : Header). FailsAtLine fault h number line records start out) e (subst (λ (l : List ℕ). FailsAtLine fault old number l records start out) f fails)
+pub failed_line : (fault : ReadingFault) (old header : Header) (given line : List ℕ) (records : List Noted) (start out : Option (List ℕ)) → old ≡ header → given ≡ line
+    → FailsAtLine fault old given records start out → FailsAtLine fault header line records start out
+failed_line fault old header given line records start out e f fails =
+    subst (λ (h : Header). FailsAtLine fault h line records start out) e (subst (λ (l : List ℕ). FailsAtLine fault old l records start out) f fails)
 
-pub ended : (r : Result Bool ReportFault) (old header : Header) (lines : List (List ℕ)) (records : List Noted) (start out : Option (List ℕ)) → old ≡ header → AreTaken header lines records
-    → IfOk r (λ some. WritesAll (WholeText old.scheme records some) start out) → IfErr r (λ fault. FailsAtEnd fault old.scheme records start out) → EndsBy (Some header) lines r start out
-ended r old header lines records start out e at ok err =
-    ends_at_end r header lines records start out at (subst (λ (h : Header). IfOk r (λ some. WritesAll (WholeText h.scheme records some) start out)) e ok)
-    (subst (λ (h : Header). IfErr r (λ fault. FailsAtEnd fault h.scheme records start out)) e err)
+pub failed_end : (fault : ReadingFault) (old header : Header) (records : List Noted) (start out : Option (List ℕ)) → old ≡ header → FailsAtEnd fault old.scheme records start out → FailsAtEnd fault header.scheme records start out
+failed_end fault old header records start out e fails = subst (λ (h : Header). FailsAtEnd fault h.scheme records start out) e fails
+
+pub written_end : (some : Bool) (old header : Header) (records : List Noted) (start out : Option (List ℕ)) → old ≡ header → WritesAll (WholeText old.scheme records some) start out → WritesAll (WholeText header.scheme records some) start out
+written_end some old header records start out e written = subst (λ (h : Header). WritesAll (WholeText h.scheme records some) start out) e written
+
+pub told_line : (number : ℕ) (header : Header) (given line : List ℕ) (some : Bool) (r : ReportFault) → given ≡ line → IsLine number (fault_of header given) some r → IsLine number (fault_of header line) some r
+told_line number header given line some r e told = subst (λ (l : List ℕ). IsLine number (fault_of header l) some r) e told
+
+-- nothing was taken of a line that has no form
+pub took_none : (header : Header) (line : List ℕ) (records : List Noted) (start out : Option (List ℕ)) (r : Reading) → has_no_form header line ≡ true
+    → Stands start out (with_record (line_in header line) records) r → Stands start out records r
+took_none header line records start out r none took = by_line (line_in header line) none took
+  where
+    by_line : (said : Option LineText) → is_none said ≡ true → Stands start out (with_record said records) r → Stands start out records r
+    by_line None none took = took
+    by_line (Some text) none took = absurd (false≢true none)
 
 -- the text has these lines
-pub with_text : (left : Option (List ℕ)) (lines : List (List ℕ)) (header : Option Header) (r : Result Bool ReportFault) (start out : Option (List ℕ)) → IsText left lines → EndsBy header lines r start out
-    → (text : List ℕ) × IfSome left (λ all. text ≡ all) × EndsBy header (lines_of text) r start out
-with_text left lines header r start out whole ends =
-    (whole.text, whole.is_left, subst (λ (l : List (List ℕ)). EndsBy header l r start out) (sym whole.has) ends)
+pub with_text : (left : Option (List ℕ)) (lines : List (List ℕ)) (said : Result Header (List ℕ)) (r : Result Bool ReportFault) (start out : Option (List ℕ)) → IsText left lines → EndsBy said lines r start out
+    → (text : List ℕ) × IfSome left (λ all. text ≡ all) × EndsBy said (lines_of text) r start out
+with_text left lines said r start out whole ends =
+    (whole.text, whole.is_left, subst (λ (l : List (List ℕ)). EndsBy said l r start out) (sym whole.has) ends)
 
--- ---- with the header
+-- ---- with the first line
 
-ends_from : (text first : List ℕ) (lines : List (List ℕ)) (header : Option Header) (r : Result Bool ReportFault) (start out : Option (List ℕ)) → lines_of text ≡ first ∷ lines
-    → header_in (fields_of first) ≡ header → EndsBy header lines r start out → Ends text r start out
-ends_from text first lines header r start out e is ends =
-    subst (λ (l : List (List ℕ)). EndsBy (header_in (fields_of (get_or l 0 []))) (drop 1 l) r start out) (sym e)
-    (subst (λ (h : Option Header). EndsBy h lines r start out) (sym is) ends)
+ends_from : (text first : List ℕ) (lines : List (List ℕ)) (said : Result Header (List ℕ)) (r : Result Bool ReportFault) (start out : Option (List ℕ)) → lines_of text ≡ first ∷ lines
+    → said_first first ≡ said → EndsBy said lines r start out → Ends text r start out
+ends_from text first lines said r start out e is ends =
+    subst (λ (l : List (List ℕ)). EndsBy (said_first (get_or l 0 [])) (drop 1 l) r start out) (sym e)
+    (subst (λ (h : Result Header (List ℕ)). EndsBy h lines r start out) (sym is) ends)
 
 -- of no line anything is printed
-none_told : (header : Option Header) → Tells header [] []
-none_told None = refl
-none_told (Some header) = ([], tt, refl)
+none_told : (said : Result Header (List ℕ)) → Tells said [] []
+none_told (Err first) = refl
+none_told (Ok header) = ([], tt, refl)
 
-none_written : (header : Option Header) (start : Option (List ℕ)) → WritesAll (Tells header []) start start
-none_written header start = ([], none_told header, Appends-nil start)
+none_written : (said : Result Header (List ℕ)) (start : Option (List ℕ)) → WritesAll (Tells said []) start start
+none_written said start = ([], none_told said, Appends-nil start)
 
-ends_unbegun : (fault : ReportFault) (header : Option Header) (lines : List (List ℕ)) (start : Option (List ℕ)) → IsReadFault fault → EndsBy header lines (Err fault) start start
-ends_unbegun Unreadable header lines start is = ([], lines, refl, none_written header start)
-ends_unbegun (Line n) header lines start is = absurd is
-ends_unbegun Output header lines start is = absurd is
-ends_unbegun NoMemory header lines start is = ([], lines, refl, none_written header start)
+ends_unbegun : (fault : ReadingFault) (said : Result Header (List ℕ)) (lines : List (List ℕ)) (start : Option (List ℕ)) → IsReadFault fault → EndsBy said lines (Err (report_fault_of fault)) start start
+ends_unbegun Unreadable said lines start is = ([], lines, refl, none_written said start)
+ends_unbegun Output said lines start is = absurd is
+ends_unbegun NoMemory said lines start is = ([], lines, refl, none_written said start)
 
-pub ends_without_header : (lines : List (List ℕ)) (start : Option (List ℕ)) → EndsBy None lines (Err (Line 1)) start start
-ends_without_header lines start = (refl, ([], refl, Appends-nil start))
+pub ends_without_header : (r : ReportFault) (first : List ℕ) (lines : List (List ℕ)) (start : Option (List ℕ)) → IsLine 1 (header_fault first) false r → EndsBy (Err first) lines (Err r) start start
+ends_without_header reported.Unreadable first lines start is = absurd is
+ends_without_header reported.Output first lines start is = absurd is
+ends_without_header reported.NoMemory first lines start is = absurd is
+ends_without_header (reported.Line n fault warned) first lines start is = (ap Some (sym is.0), is.1, ([], (is.2, refl), Appends-nil start))
 
 -- a text with this first line and these lines
-pub with_header : (left : Option (List ℕ)) (first : List ℕ) (lines : List (List ℕ)) (header : Option Header) (r : Result Bool ReportFault) (start out : Option (List ℕ)) → IsText left (first ∷ lines)
-    → header_in (fields_of first) ≡ header → EndsBy header lines r start out → (text : List ℕ) × IfSome left (λ all. text ≡ all) × Ends text r start out
-with_header left first lines header r start out whole is ends = (whole.text, whole.is_left, ends_from whole.text first lines header r start out whole.has is ends)
+pub with_header : (left : Option (List ℕ)) (first : List ℕ) (lines : List (List ℕ)) (said : Result Header (List ℕ)) (r : Result Bool ReportFault) (start out : Option (List ℕ)) → IsText left (first ∷ lines)
+    → said_first first ≡ said → EndsBy said lines r start out → (text : List ℕ) × IfSome left (λ all. text ≡ all) × Ends text r start out
+with_header left first lines said r start out whole is ends = (whole.text, whole.is_left, ends_from whole.text first lines said r start out whole.has is ends)
 
-pub without_a_line : (left : Option (List ℕ)) (text : List ℕ) (fault : ReportFault) (start : Option (List ℕ)) → IfSome left (λ all. text ≡ all) → IsReadFault fault
-    → (text : List ℕ) × IfSome left (λ all. text ≡ all) × Ends text (Err fault) start start
+pub without_a_line : (left : Option (List ℕ)) (text : List ℕ) (fault : ReadingFault) (start : Option (List ℕ)) → IfSome left (λ all. text ≡ all) → IsReadFault fault
+    → (text : List ℕ) × IfSome left (λ all. text ≡ all) × Ends text (Err (report_fault_of fault)) start start
 without_a_line left text fault start is_left is = (text, is_left, ends_unbegun fault (header_of text) (body_of text) start is)

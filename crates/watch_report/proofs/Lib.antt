@@ -23,3 +23,5 @@ pub mod TriggerLaws
 pub mod WorkedReports
 mod TextLemmas
 mod NoteLemmas
+pub mod FaultLaws
+pub mod WorkedFaults

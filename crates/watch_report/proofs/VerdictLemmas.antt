@@ -16,8 +16,8 @@ use Rattle.watch_report.specs.declared.header.Header.{Header}
 use Rattle.watch_report.specs.declared.warning.Trigger.{Trigger}
 use Rattle.watch_report.specs.Warnings.{sum_of, summary_line}
 use Rattle.watch_report.specs.TraceLines.{line_in, record_of}
-use Rattle.watch_report.specs.declared.fault.ReportFault.{ReportFault}
-use Rattle.watch_report.specs.declared.fault.ReportFault.TheVariants.{Unreadable, Line, Output, NoMemory}
+use Rattle.watch_report.specs.declared.reading_fault.ReadingFault.{ReadingFault}
+use Rattle.watch_report.specs.declared.reading_fault.ReadingFault.TheVariants.{Unreadable, Output, NoMemory}
 use Rattle.watch_report.specs.declared.reading.Reading.{Reading}
 use Rattle.watch_report.specs.NoteTexts.{AreNotes}
 use Rattle.watch_report.specs.Output.{AppendsFront}
@@ -54,21 +54,20 @@ seen_more r new records given newest warnings seen header scheme follows are num
     }
 
 -- the writer failed at the lines of a record
-pub fails_at_record : (r : Result (Unit {0}) ReportFault) (scheme : Scheme) (newest : Noted) (records : List Noted) (given : List (List Warning)) (warnings : List Warning) (start mid out : Option (List ℕ))
+pub fails_at_record : (r : Result (Unit {0}) ReadingFault) (scheme : Scheme) (newest : Noted) (records : List Noted) (given : List (List Warning)) (warnings : List Warning) (start mid out : Option (List ℕ))
     → AreWarnings scheme newest.made (trace_of records) warnings → AreGiven scheme records given → Appends start mid (verdict_lines records given)
     → OnErr r (IsErrOf r Output) → OnErr r (AppendsFront mid out (record_lines newest records warnings))
     → IfErr r (λ fault. FailsAtRecord fault scheme newest records start out)
 fails_at_record (Ok done) scheme newest records given warnings start mid out new old written is front = tt
 fails_at_record (Err fault) scheme newest records given warnings start mid out new old written is front =
-    subst (λ (r : Result (Unit {0}) ReportFault). IfErr r (λ f. FailsAtRecord f scheme newest records start out)) (sym is)
+    subst (λ (r : Result (Unit {0}) ReadingFault). IfErr r (λ f. FailsAtRecord f scheme newest records start out)) (sym is)
     (verdict_lines (newest ∷ records) (warnings ∷ given), (warnings ∷ given, (new, old), refl), front_after start mid out _ _ written front)
 
-pub fails_at_line : (fault : ReportFault) (header : Header) (number : ℕ) (line by : List ℕ) (made : Record) (records : List Noted) (start out : Option (List ℕ))
-    → line_in header line ≡ Some (record_of made by) → FailsAtRecord fault header.scheme (noted_of made by) records start out → FailsAtLine fault header number line records start out
-fails_at_line Unreadable header number line by made records start out e fails = absurd fails
-fails_at_line (Line n) header number line by made records start out e fails = absurd fails
-fails_at_line Output header number line by made records start out e fails = rw e (refl, fails)
-fails_at_line NoMemory header number line by made records start out e fails = fails
+pub fails_at_line : (fault : ReadingFault) (header : Header) (line by : List ℕ) (made : Record) (records : List Noted) (start out : Option (List ℕ))
+    → line_in header line ≡ Some (record_of made by) → FailsAtRecord fault header.scheme (noted_of made by) records start out → FailsAtLine fault header line records start out
+fails_at_line Unreadable header line by made records start out e fails = absurd fails
+fails_at_line Output header line by made records start out e fails = rw e (refl, fails)
+fails_at_line NoMemory header line by made records start out e fails = fails
 
 -- ---- how many verdicts there are
 
@@ -136,10 +135,10 @@ pub whole_text : (scheme : Scheme) (records : List Noted) (given : List (List Wa
 whole_text scheme records given some user kernel number are is a b n =
     rw (is, a, b, n) (given, are, refl, counts_say scheme records given are)
 
-pub fails_at_end : (r : Result (Unit {0}) ReportFault) (scheme : Scheme) (records : List Noted) (some : Bool) (before last : List ℕ) (start mid out : Option (List ℕ))
+pub fails_at_end : (r : Result (Unit {0}) ReadingFault) (scheme : Scheme) (records : List Noted) (some : Bool) (before last : List ℕ) (start mid out : Option (List ℕ))
     → WholeText scheme records some (before ++ last) → Appends start mid before → OnErr r (IsErrOf r Output) → OnErr r (AppendsFront mid out last)
     → IfErr r (λ fault. FailsAtEnd fault scheme records start out)
 fails_at_end (Ok done) scheme records some before last start mid out whole written is front = tt
 fails_at_end (Err fault) scheme records some before last start mid out whole written is front =
-    subst (λ (r : Result (Unit {0}) ReportFault). IfErr r (λ f. FailsAtEnd f scheme records start out)) (sym is)
+    subst (λ (r : Result (Unit {0}) ReadingFault). IfErr r (λ f. FailsAtEnd f scheme records start out)) (sym is)
     (some, (before ++ last, whole, front_after start mid out before last written front))

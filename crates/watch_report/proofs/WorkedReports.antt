@@ -1,5 +1,5 @@
 -- The worked reports, computed.
-use Rattle.std.proofs.Common.{◌≡◌, ℕ, codes, false, List, [], ◌∷◌, Option, Some, None, inl, inr, refl, ap, ◌∙◌, length, arith}
+use Rattle.std.proofs.Common.{◌≡◌, ℕ, codes, false, List, [], ◌∷◌, ◌++◌, Option, Some, None, inl, inr, refl, sym, ap, ◌∙◌, length, arith}
 use Rattle.std.specs.Fmt.{digits}
 use Rattle.std.proofs.lemmas.Bool.{false≢true}
 use Rattle.pte.specs.declared.scheme.Scheme.{Scheme}
@@ -10,8 +10,9 @@ use Rattle.watch.specs.declared.trace.Verdict.TheVariants.{Free, Reuse, Claimed,
 use Rattle.watch.specs.Holding.{Translation}
 use Rattle.watch.specs.Verdicts.{IsGiven}
 use Rattle.watch_engine.specs.Warnings.{AreWarnings}
-use Rattle.watch_report.specs.TraceText.{body_of}
-use Rattle.watch_report.specs.VerdictLines.{GivesVerdict, WholeText}
+use Rattle.watch_report.specs.declared.line_fault.LineFault.{LineFault}
+use Rattle.watch_report.specs.TraceText.{Noted, body_of}
+use Rattle.watch_report.specs.VerdictLines.{GivesVerdict, WholeText, verdict_lines}
 use Rattle.watch_report.specs.WorkedReports as rows
 
 -- no verdict at the first record, which is an access
@@ -51,15 +52,15 @@ header_alone = (refl, (codes "0 records, no verdict\n", ([], tt, refl, (λ t. ab
 
 pub no_line : rows.no_line
 unfolding rows.Prints
-no_line = (refl, ([], refl, refl))
+no_line = (refl, refl, ([], (refl, refl), refl))
 
 pub no_header : rows.no_header
 unfolding rows.Prints
-no_header = (refl, ([], refl, refl))
+no_header = (refl, refl, ([], (refl, refl), refl))
 
 pub faulty : rows.faulty
 unfolding rows.Prints
-faulty = (refl, ([], ([] ∷ [], (none_at_first Sv39 0 0x1000, tt), refl), refl))
+faulty = (refl, refl, (_, whole Sv39 0 0x1000 [], refl))
 
 pub torn : rows.torn
 unfolding rows.Prints
@@ -67,9 +68,13 @@ torn = ([], body_of rows.used_once, refl, ([], ([], tt, refl), refl))
 
 pub cut_off : rows.cut_off
 unfolding rows.Prints
-cut_off = inr (refl, (false, (_, whole Sv39 1 0x1000 (codes "here"), (5, refl))))
+cut_off = inr (false, (_, whole Sv39 1 0x1000 (codes "here"), (5, refl)))
 
-pub ruleset endings = (done, done_without_a_feed, header_alone, no_line, no_header, faulty, torn, cut_off)
+pub cut_off_at_a_fault : rows.cut_off_at_a_fault
+unfolding rows.Prints
+cut_off_at_a_fault = inr (false, (_, whole Sv39 0 0x1000 [], (5, refl)))
+
+pub ruleset endings = (done, done_without_a_feed, header_alone, no_line, no_header, faulty, torn, cut_off, cut_off_at_a_fault)
 
 -- ---- what is not so
 
@@ -81,6 +86,14 @@ pub other_line : rows.other_line
 unfolding rows.Prints
 other_line ends = let same : 3 ≡ 4 = ap number_in ends.0 in omega (arith, same)
 
+abbrev column_in : Option LineFault → ℕ
+column_in None = 0
+column_in (Some fault) = fault.column
+
+pub other_fault : rows.other_fault
+unfolding rows.Prints
+other_fault ends = let same : 3 ≡ 4 = ap column_in ends.1 in omega (arith, same)
+
 pub done_with_a_fault : rows.done_with_a_fault
 unfolding rows.Prints
 done_with_a_fault ends = let same : 3 ≡ 0 = ap number_in ends.0 in omega (arith, same)
@@ -89,6 +102,14 @@ pub warned_without_a_verdict : rows.warned_without_a_verdict
 unfolding rows.Prints
 warned_without_a_verdict (none, (text, (given, are, is, says), written)) = gives_none Sv39 1 0x1000 (says.0 refl)
 
+pub warned_at_a_fault : rows.warned_at_a_fault
+unfolding rows.Prints
+warned_at_a_fault (number, fault, (text, (given, are, is, says), written)) = gives_none Sv39 0 0x1000 (says.0 refl)
+
+pub warned_without_a_header : rows.warned_without_a_header
+unfolding rows.Prints
+warned_without_a_header (number, fault, (text, (some, is), written)) = false≢true (sym some)
+
 no_bytes : (byte : ℕ) (rest : List ℕ) → [] ≡ byte ∷ rest → ⊥
 no_bytes byte rest e = let long = ap length e in omega (arith, long)
 
@@ -96,7 +117,19 @@ pub nothing_printed : rows.nothing_printed
 unfolding digits rows.Prints
 nothing_printed (none, (text, (given, are, is, says), written)) = no_bytes _ _ (written ∙ is)
 
-pub ruleset refusals = (other_line, done_with_a_fault, warned_without_a_verdict, nothing_printed)
+abbrev one_use : List Noted
+one_use = record { made = Use 0 0x1000; by = [] } ∷ []
+
+-- the last line has bytes, whatever stands before it
+no_end : (before : List ℕ) (byte : ℕ) (rest : List ℕ) → [] ≡ before ++ byte ∷ rest → ⊥
+no_end [] byte rest e = no_bytes byte rest e
+no_end (first ∷ before) byte rest e = no_bytes first (before ++ byte ∷ rest) e
+
+pub no_last_line_at_a_fault : rows.no_last_line_at_a_fault
+unfolding digits rows.Prints
+no_last_line_at_a_fault (number, fault, (text, (given, are, is, says), written)) = no_end (verdict_lines one_use given) _ _ (written ∙ is)
+
+pub ruleset refusals = (other_line, other_fault, done_with_a_fault, warned_without_a_verdict, warned_at_a_fault, warned_without_a_header, no_last_line_at_a_fault, nothing_printed)
 
 -- ---- lines
 

@@ -1,46 +1,55 @@
 -- How the report of a trace ends, and what it leaves written.
-use Rattle.std.specs.Prelude.{ℕ, Bool, ◌≡◌, ◌⊎◌, List, [], ◌++◌, Option, Some, None, Result, Ok, Err}
+use Rattle.std.specs.Prelude.{ℕ, Bool, false, ◌≡◌, ◌⊎◌, List, [], ◌++◌, Option, Some, None, Result, Ok, Err}
 use Rattle.watch_report.specs.declared.header.Header.{Header}
 use Rattle.watch_report.specs.declared.fault.ReportFault.{ReportFault}
 use Rattle.watch_report.specs.declared.fault.ReportFault.TheVariants.{Unreadable, Line, Output, NoMemory}
+use Rattle.watch_report.specs.declared.line_fault.LineFault.{LineFault}
 use Rattle.watch_report.specs.Output.{WritesAll, WritesFront}
-use Rattle.watch_report.specs.TraceText.{body_of, faulty_line, header_of, records_of}
+use Rattle.watch_report.specs.TraceText.{body_of, fault_in, faulty_line, header_of, records_of}
 use Rattle.watch_report.specs.VerdictLines.{VerdictText, WholeText}
 
--- what is printed of lines after the header: the verdicts at each record before the first line that
--- has no form
-abbrev pub Tells : Option Header → List (List ℕ) → List ℕ → Type 0
-Tells None lines text = text ≡ []
-Tells (Some header) lines text = VerdictText header.scheme (records_of header lines) text
+-- what is printed of lines after the first: the verdicts at each record before the first line that has
+-- no form; and nothing where the first line is no header
+abbrev pub Tells : Result Header (List ℕ) → List (List ℕ) → List ℕ → Type 0
+Tells (Err first) lines text = text ≡ []
+Tells (Ok header) lines text = VerdictText header.scheme (records_of header lines) text
 
 -- and after that the last line; and whether there is a verdict
-abbrev pub TellsAll : Option Header → List (List ℕ) → Bool → List ℕ → Type 0
-TellsAll None lines some text = ⊥
-TellsAll (Some header) lines some text =
+abbrev pub TellsAll : Result Header (List ℕ) → List (List ℕ) → Bool → List ℕ → Type 0
+TellsAll (Err first) lines some text = (some ≡ false) × (text ≡ [])
+TellsAll (Ok header) lines some text =
     WholeText header.scheme (records_of header lines) some text
 
 -- what was written is so of the first of the lines, some or all
 abbrev pub EndsWithin : ((List ℕ → Type 0) → Option (List ℕ) → Option (List ℕ) → Type 0)
-    → Option Header → List (List ℕ) → Option (List ℕ) → Option (List ℕ) → Type 0
-EndsWithin Writes header lines old new =
+    → Result Header (List ℕ) → List (List ℕ) → Option (List ℕ) → Option (List ℕ) → Type 0
+EndsWithin Writes said lines old new =
     (front : List (List ℕ)) × (back : List (List ℕ)) × (front ++ back ≡ lines)
-    × Writes (Tells header front) old new
+    × Writes (Tells said front) old new
 
--- how it ends for this header and these lines after it: done, and whether there is a verdict; at the
--- first line that has no form; or within the lines, where the reader or the writer fails, or memory
--- runs out
-abbrev pub EndsBy : Option Header → List (List ℕ) → Result Bool ReportFault
+-- how it ends for what the first line says and these lines after it: done, and whether there is a
+-- verdict; at the first line that has no form, by its fault, and whether there is a verdict before it;
+-- or within the lines, where the reader or the writer fails, or memory runs out
+abbrev pub EndsBy : Result Header (List ℕ) → List (List ℕ) → Result Bool ReportFault
     → Option (List ℕ) → Option (List ℕ) → Type 0
-EndsBy header lines (Ok some) old new =
-    (faulty_line header lines ≡ None) × WritesAll (TellsAll header lines some) old new
-EndsBy header lines (Err (Line number)) old new =
-    (faulty_line header lines ≡ Some number) × WritesAll (Tells header lines) old new
-EndsBy header lines (Err Unreadable) old new = EndsWithin WritesAll header lines old new
-EndsBy header lines (Err NoMemory) old new = EndsWithin WritesAll header lines old new
-EndsBy header lines (Err Output) old new =
-    EndsWithin WritesFront header lines old new
-    ⊎ ((faulty_line header lines ≡ None)
-    × ((some : Bool) × WritesFront (TellsAll header lines some) old new))
+EndsBy said lines (Ok some) old new =
+    (faulty_line said lines ≡ None) × WritesAll (TellsAll said lines some) old new
+EndsBy said lines (Err (Line number fault some)) old new =
+    (faulty_line said lines ≡ Some number) × (fault_in said lines number ≡ Some fault)
+    × WritesAll (TellsAll said lines some) old new
+EndsBy said lines (Err Unreadable) old new = EndsWithin WritesAll said lines old new
+EndsBy said lines (Err NoMemory) old new = EndsWithin WritesAll said lines old new
+EndsBy said lines (Err Output) old new =
+    EndsWithin WritesFront said lines old new
+    ⊎ ((some : Bool) × WritesFront (TellsAll said lines some) old new)
 
 abbrev pub Ends : List ℕ → Result Bool ReportFault → Option (List ℕ) → Option (List ℕ) → Type 0
 Ends text result old new = EndsBy (header_of text) (body_of text) result old new
+
+-- the fault tells of the line of this number, which has this one, after a verdict or none
+abbrev pub IsLine : ℕ → Option LineFault → Bool → ReportFault → Type 0
+IsLine number found some Unreadable = ⊥
+IsLine number found some (Line at fault warned) =
+    (at ≡ number) × (found ≡ Some fault) × (warned ≡ some)
+IsLine number found some Output = ⊥
+IsLine number found some NoMemory = ⊥

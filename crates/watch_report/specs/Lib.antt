@@ -17,3 +17,7 @@ pub mod Output
 pub mod Reading
 pub mod Ending
 pub mod WorkedReports
+pub mod LineForms
+pub mod LineFaults
+pub mod ReasonTexts
+pub mod WorkedFaults

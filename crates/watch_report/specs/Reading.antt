@@ -6,7 +6,9 @@ use Rattle.watch_engine.specs.declared.warning.Warning.{Warning}
 use Rattle.watch_engine.specs.Watching.{Follows}
 use Rattle.watch_tables.specs.Words.{since, words}
 use Rattle.watch_report.specs.declared.fault.ReportFault.{ReportFault}
-use Rattle.watch_report.specs.declared.fault.ReportFault.TheVariants.{Unreadable, Line, Output, NoMemory}
+use Rattle.watch_report.specs.declared.fault.ReportFault.TheVariants as reported
+use Rattle.watch_report.specs.declared.reading_fault.ReadingFault.{ReadingFault}
+use Rattle.watch_report.specs.declared.reading_fault.ReadingFault.TheVariants.{Unreadable, Output, NoMemory}
 use Rattle.watch_report.specs.declared.reading.Reading.{Reading}
 use Rattle.pte.specs.declared.scheme.Scheme.{Scheme}
 use Rattle.watch_report.specs.declared.header.Header.{Header}
@@ -33,11 +35,16 @@ pub record ReadsLine (left rest : Option (List ℕ)) (line : List ℕ) (more : B
   pub cut : CutsLine more bytes line
   pub last : IsLastUnless more left rest
 
-abbrev pub IsReadFault : ReportFault → Type 0
+abbrev pub IsReadFault : ReadingFault → Type 0
 IsReadFault Unreadable = Unit {0}
-IsReadFault (Line number) = ⊥
 IsReadFault Output = ⊥
 IsReadFault NoMemory = Unit {0}
+
+-- the report's fault for one of the reading
+abbrev pub report_fault_of : ReadingFault → ReportFault
+report_fault_of Unreadable = reported.Unreadable
+report_fault_of Output = reported.Output
+report_fault_of NoMemory = reported.NoMemory
 
 -- these records were read, with these warnings
 pub record HasSeen (records : List Noted) (given : List (List Warning)) (r : Reading) : Type 0 where
@@ -56,31 +63,26 @@ pub record Stands (start out : Option (List ℕ)) (records : List Noted) (r : Re
   pub written : Appends start out (verdict_lines records given)
 
 -- what was written where a step fails at a record, a line, or the end, after these records
-abbrev pub FailsAtRecord : ReportFault → Scheme → Noted → List Noted → Option (List ℕ)
+abbrev pub FailsAtRecord : ReadingFault → Scheme → Noted → List Noted → Option (List ℕ)
     → Option (List ℕ) → Type 0
 FailsAtRecord Unreadable scheme newest records start out = ⊥
-FailsAtRecord (Line number) scheme newest records start out = ⊥
 FailsAtRecord Output scheme newest records start out =
     WritesFront (VerdictText scheme (newest ∷ records)) start out
 FailsAtRecord NoMemory scheme newest records start out =
     WritesAll (VerdictText scheme records) start out
 
-abbrev pub FailsAtLine : ReportFault → Header → ℕ → List ℕ → List Noted → Option (List ℕ)
+abbrev pub FailsAtLine : ReadingFault → Header → List ℕ → List Noted → Option (List ℕ)
     → Option (List ℕ) → Type 0
-FailsAtLine Unreadable header number line records start out = ⊥
-FailsAtLine (Line at) header number line records start out =
-    (at ≡ number) × (has_no_form header line ≡ true)
-    × WritesAll (VerdictText header.scheme records) start out
-FailsAtLine Output header number line records start out =
+FailsAtLine Unreadable header line records start out = ⊥
+FailsAtLine Output header line records start out =
     (has_no_form header line ≡ false)
     × WritesFront (VerdictText header.scheme (with_record (line_in header line) records)) start out
-FailsAtLine NoMemory header number line records start out =
+FailsAtLine NoMemory header line records start out =
     WritesAll (VerdictText header.scheme records) start out
 
-abbrev pub FailsAtEnd : ReportFault → Scheme → List Noted → Option (List ℕ) → Option (List ℕ)
+abbrev pub FailsAtEnd : ReadingFault → Scheme → List Noted → Option (List ℕ) → Option (List ℕ)
     → Type 0
 FailsAtEnd Unreadable scheme records start out = ⊥
-FailsAtEnd (Line number) scheme records start out = ⊥
 FailsAtEnd Output scheme records start out =
     (some : Bool) × WritesFront (WholeText scheme records some) start out
 FailsAtEnd NoMemory scheme records start out = WritesAll (VerdictText scheme records) start out

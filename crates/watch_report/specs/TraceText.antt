@@ -1,12 +1,14 @@
 -- What the text of a trace says, line by line.
-use Rattle.std.specs.Prelude.{ℕ, Bool, ◌==◌, ◌+◌, List, [], ◌∷◌, drop, get_or, length, map, if◌then◌else◌}
-use Rattle.std.specs.Prelude.{Option, Some, None, option_map}
+use Rattle.std.specs.Prelude.{ℕ, Bool, ◌==◌, ◌+◌, ◌-◌, List, [], ◌∷◌, drop, get_or, length, map, if◌then◌else◌}
+use Rattle.std.specs.Prelude.{Option, Some, None, option_map, Result, Ok, Err}
 use Rattle.std.specs.List.{before_first, position, slice_split}
 use Rattle.std.specs.Option.{is_none}
 use Rattle.watch.specs.declared.trace.Record.{Record}
 use Rattle.watch.specs.Trace.{Trace}
 use Rattle.watch_report.specs.declared.header.Header.{Header}
+use Rattle.watch_report.specs.declared.line_fault.LineFault.{LineFault}
 use Rattle.watch_report.specs.Fields.{fields_of}
+use Rattle.watch_report.specs.LineFaults.{fault_of, header_fault}
 use Rattle.watch_report.specs.TraceLines.{LineText, header_in, line_in, record_of}
 
 -- the lines of a text: what stands between its line feeds
@@ -16,9 +18,16 @@ is_feed byte = byte == 10
 abbrev pub lines_of : List ℕ → List (List ℕ)
 lines_of text = slice_split is_feed text
 
--- what its first line says, and the lines after that
-abbrev pub header_of : List ℕ → Option Header
-header_of text = header_in (fields_of (get_or (lines_of text) 0 []))
+-- what its first line says, or that line itself where it is no header; and the lines after it
+abbrev pub or_line : List ℕ → Option Header → Result Header (List ℕ)
+or_line line None = Err line
+or_line line (Some header) = Ok header
+
+abbrev pub said_first : List ℕ → Result Header (List ℕ)
+said_first line = or_line line (header_in (fields_of line))
+
+abbrev pub header_of : List ℕ → Result Header (List ℕ)
+header_of text = said_first (get_or (lines_of text) 0 [])
 
 abbrev pub body_of : List ℕ → List (List ℕ)
 body_of text = drop 1 (lines_of text)
@@ -27,9 +36,14 @@ abbrev pub has_no_form : Header → List ℕ → Bool
 has_no_form header line = is_none (line_in header line)
 
 -- the number of the first line that has no form: the header is line 1
-abbrev pub faulty_line : Option Header → List (List ℕ) → Option ℕ
-faulty_line None lines = Some 1
-faulty_line (Some header) lines = option_map (λ n. n + 2) (position (has_no_form header) lines)
+abbrev pub faulty_line : Result Header (List ℕ) → List (List ℕ) → Option ℕ
+faulty_line (Err first) lines = Some 1
+faulty_line (Ok header) lines = option_map (λ n. n + 2) (position (has_no_form header) lines)
+
+-- the fault of the line of a number
+abbrev pub fault_in : Result Header (List ℕ) → List (List ℕ) → ℕ → Option LineFault
+fault_in (Err first) lines number = header_fault first
+fault_in (Ok header) lines number = fault_of header (get_or lines (number - 2) [])
 
 -- a record, and what its note says
 pub record Noted : Type 0 where

@@ -8,7 +8,9 @@ use Rattle.watch.specs.declared.trace.Verdict.TheVariants.{Free, Used}
 use Rattle.watch_engine.specs.declared.warning.Warning.{Warning}
 use Rattle.watch_report.specs.declared.fault.ReportFault.{ReportFault}
 use Rattle.watch_report.specs.declared.fault.ReportFault.TheVariants.{Line, Output, Unreadable}
+use Rattle.watch_report.specs.declared.line_fault.LineReason.TheVariants.{EmptyStart, NoHart, NoTrace}
 use Rattle.watch_report.specs.Ending.{Ends}
+use Rattle.watch_report.specs.LineFaults.{fault_at}
 use Rattle.watch_report.specs.TraceText.{Noted}
 use Rattle.watch_report.specs.VerdictLines.{summary_of, verdict_lines}
 
@@ -34,31 +36,52 @@ abbrev pub header_alone : Type 0
 header_alone = Prints (codes "watch 1 2 sv39") (codes "0 records, no verdict\n") (Ok false)
 
 abbrev pub no_line : Type 0
-no_line = Prints [] [] (Err (Line 1))
+no_line = Prints [] [] (Err (Line 1 (fault_at 1 EmptyStart) false))
 
 abbrev pub no_header : Type 0
-no_header = Prints (codes "u 0 1000\n") [] (Err (Line 1))
+no_header = Prints (codes "u 0 1000\n") [] (Err (Line 1 (fault_at 1 NoTrace) false))
 
 abbrev pub faulty : Type 0
-faulty = Prints hart_too_great [] (Err (Line 3))
+faulty =
+    Prints hart_too_great (codes "1 record, no verdict\n") (Err (Line 3 (fault_at 3 (NoHart 2 1)) false))
 
--- where the reader, or memory, fails, what was read before is printed
+-- where the reader, or memory, fails, what was read before is printed, without a last line
 abbrev pub torn : Type 0
 torn = Prints used_once [] (Err Unreadable)
 
 abbrev pub cut_off : Type 0
 cut_off = Prints used_once (codes "1 rec") (Err Output)
 
--- what is not so: another line, a fault that counts for nothing, a verdict where there is none, no
--- last line
+-- the last line after a faulty one may be cut off too
+abbrev pub cut_off_at_a_fault : Type 0
+cut_off_at_a_fault = Prints hart_too_great (codes "1 rec") (Err Output)
+
+-- what is not so: another line, another fault of the line, a fault that counts for nothing, a verdict
+-- where there is none, no last line
 abbrev pub other_line : Type 0
-other_line = ¬ Prints hart_too_great [] (Err (Line 4))
+other_line =
+    ¬ Prints hart_too_great (codes "1 record, no verdict\n") (Err (Line 4 (fault_at 3 (NoHart 2 1)) false))
+
+abbrev pub other_fault : Type 0
+other_fault =
+    ¬ Prints hart_too_great (codes "1 record, no verdict\n") (Err (Line 3 (fault_at 4 (NoHart 2 1)) false))
 
 abbrev pub done_with_a_fault : Type 0
 done_with_a_fault = ¬ Prints hart_too_great (codes "1 record, no verdict\n") (Ok false)
 
 abbrev pub warned_without_a_verdict : Type 0
 warned_without_a_verdict = ¬ Prints used_once (codes "1 record, no verdict\n") (Ok true)
+
+abbrev pub warned_at_a_fault : Type 0
+warned_at_a_fault =
+    ¬ Prints hart_too_great (codes "1 record, no verdict\n") (Err (Line 3 (fault_at 3 (NoHart 2 1)) true))
+
+abbrev pub warned_without_a_header : Type 0
+warned_without_a_header =
+    ¬ Prints (codes "u 0 1000\n") [] (Err (Line 1 (fault_at 1 NoTrace) true))
+
+abbrev pub no_last_line_at_a_fault : Type 0
+no_last_line_at_a_fault = ¬ Prints hart_too_great [] (Err (Line 3 (fault_at 3 (NoHart 2 1)) false))
 
 abbrev pub nothing_printed : Type 0
 nothing_printed = ¬ Prints (codes "watch 1 2 sv39") [] (Ok false)

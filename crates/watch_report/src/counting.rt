@@ -1,26 +1,26 @@
 //! How often each verdict was given.
 ghost use Rattle.std.specs.Prelude.{◌≡◌, ◌+◌, false, true, nat_lt, IfOk, IfErr, OnOk};
 ghost use Rattle.watch_report.specs.Warnings.{sum_of};
-ghost use Rattle.watch_report.specs.declared.fault.ReportFault.TheVariants.{NoMemory};
+ghost use Rattle.watch_report.specs.declared.reading_fault.ReadingFault.TheVariants.{NoMemory};
 ghost use Rattle.watch_report.specs.VerdictLines.{counted, counts_after, with_verdict};
 
 use crate::counts::VerdictCounts;
-use crate::fault::ReportFault;
+use crate::reading_fault::ReadingFault;
 use watch::Verdict;
 use watch_engine::Warning;
 
 /// Refused where the count has no room in 64 bits.
-pub fn one_more(count: u64) -> Result<u64, ReportFault>
+pub fn one_more(count: u64) -> Result<u64, ReadingFault>
     ensures ok { IfOk result (λ more. more ≡ count + 1) }
     ensures err { IfErr result (λ fault. fault ≡ NoMemory) }
 {
     match count.checked_add(1) {
         Some(more) => Ok(more),
-        None => Err(ReportFault::NoMemory),
+        None => Err(ReadingFault::NoMemory),
     }
 }
 
-fn add_verdict(counts: &mut VerdictCounts, verdict: Verdict) -> Result<(), ReportFault>
+fn add_verdict(counts: &mut VerdictCounts, verdict: Verdict) -> Result<(), ReadingFault>
     ensures ok { OnOk result (counts.new ≡ with_verdict verdict counts.old) }
     ensures err { IfErr result (λ fault. fault ≡ NoMemory) }
 {
@@ -37,7 +37,7 @@ fn count_warning(
     user: &mut VerdictCounts,
     kernel: &mut VerdictCounts,
     warning: &Warning,
-) -> Result<(), ReportFault>
+) -> Result<(), ReadingFault>
     ensures user { OnOk result (user.new ≡ counted false warning.now user.old) }
     ensures kernel { OnOk result (kernel.new ≡ counted true warning.now kernel.old) }
     ensures err { IfErr result (λ fault. fault ≡ NoMemory) }
@@ -54,7 +54,7 @@ pub fn count_warnings(
     user: &mut VerdictCounts,
     kernel: &mut VerdictCounts,
     warnings: &[Warning],
-) -> Result<(), ReportFault>
+) -> Result<(), ReadingFault>
     ensures user { OnOk result (user.new ≡ counts_after false user.old warnings.now) }
     ensures kernel { OnOk result (kernel.new ≡ counts_after true kernel.old warnings.now) }
     ensures err { IfErr result (λ fault. fault ≡ NoMemory) }

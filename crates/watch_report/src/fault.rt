@@ -1,9 +1,9 @@
 //! Why a report is not whole.
 ghost use Rattle.std.specs.Prelude.{◌≡◌};
 
-use std::alloc::AllocError;
+use crate::line_fault::LineFault;
+use crate::reading_fault::ReadingFault;
 use thiserror::Error;
-use watch_engine::RecordFault;
 
 /// Why the report of a trace is not whole.
 #[derive(Clone, Copy, PartialEq, Eq, Debug, Error)]
@@ -11,9 +11,14 @@ pub enum ReportFault {
     /// The reader failed.
     #[error("the trace cannot be read")]
     Unreadable,
-    /// The line of this number has no form; the first line is line 1.
-    #[error("line {0}: not a line of a trace")]
-    Line(u64),
+    /// A line has no form. Its number is from 1 on, and `warned` says whether there is a verdict on the
+    /// records before it.
+    #[error("{number}:{fault}")]
+    Line {
+        number: u64,
+        fault: LineFault,
+        warned: bool,
+    },
     /// The writer failed.
     #[error("the report cannot be written")]
     Output,
@@ -22,22 +27,16 @@ pub enum ReportFault {
     NoMemory,
 }
 
-impl From<AllocError> for ReportFault {
-    ghost use Rattle.watch_report.specs.declared.fault.ReportFault.TheVariants.{NoMemory};
+impl From<ReadingFault> for ReportFault {
+    ghost use Rattle.watch_report.specs.Reading.{report_fault_of};
 
-    ghost from_gives = { λ _ e. e ≡ NoMemory };
+    ghost from_gives = { λ fault e. e ≡ report_fault_of fault };
 
-    fn from(_error: AllocError) -> ReportFault {
-        ReportFault::NoMemory
-    }
-}
-
-impl From<RecordFault> for ReportFault {
-    ghost use Rattle.watch_report.specs.declared.fault.ReportFault.TheVariants.{NoMemory};
-
-    ghost from_gives = { λ _ e. e ≡ NoMemory };
-
-    fn from(_fault: RecordFault) -> ReportFault {
-        ReportFault::NoMemory
+    fn from(fault: ReadingFault) -> ReportFault {
+        match fault {
+            ReadingFault::Unreadable => ReportFault::Unreadable,
+            ReadingFault::Output => ReportFault::Output,
+            ReadingFault::NoMemory => ReportFault::NoMemory,
+        }
     }
 }

@@ -13,7 +13,7 @@ pub fn is_separator(byte: u8) -> bool
 }
 
 /// How many bytes stand before the first space, or at all.
-fn field_len(text: &[u8]) -> usize
+pub(crate) fn field_len(text: &[u8]) -> usize
     ensures { result ≡ position_or_len is_separator text.now }
 {
     text.iter()

@@ -29,7 +29,7 @@ fn harts(field: &[u8]) -> Option<u8>
 }
 
 /// `sv39` or `sv48`.
-fn scheme(field: &[u8]) -> Option<Scheme>
+pub(crate) fn scheme(field: &[u8]) -> Option<Scheme>
     ensures { result ≡ scheme_field field.now }
 {
     if field == b"sv39".as_slice() {

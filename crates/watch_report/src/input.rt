@@ -5,7 +5,7 @@ ghost use Rattle.std.specs.Io.KnownBytes.{Consumes, Keeps};
 ghost use Rattle.watch_report.specs.Reading.{IsReadFault, ReadsLine};
 
 use crate::bytes::first_of;
-use crate::fault::ReportFault;
+use crate::reading_fault::ReadingFault;
 use std::io;
 use std::io::BufRead;
 
@@ -26,19 +26,19 @@ fn take_feed(line: &mut Vec<u8>) -> bool
     true
 }
 
-fn read_fault(error: &io::Error) -> ReportFault
+fn read_fault(error: &io::Error) -> ReadingFault
     ensures { IsReadFault result }
 {
     if error.kind() == io::ErrorKind::OutOfMemory {
-        ReportFault::NoMemory
+        ReadingFault::NoMemory
     } else {
-        ReportFault::Unreadable
+        ReadingFault::Unreadable
     }
 }
 
 /// Reads a line that the reader shows whole, or the end, into an empty `line`. `None`: it shows
 /// neither, and nothing was read.
-fn read_shown<R: BufRead>(input: &mut R, line: &mut Vec<u8>) -> Result<Option<bool>, ReportFault>
+fn read_shown<R: BufRead>(input: &mut R, line: &mut Vec<u8>) -> Result<Option<bool>, ReadingFault>
     requires empty { line.old.items ≡ [] }
     ensures read { IfOk result (λ read. IfSome read (λ more.
         ReadsLine (R.remaining input.old) (R.remaining input.new) line.new.items more)) }
@@ -65,7 +65,7 @@ fn read_shown<R: BufRead>(input: &mut R, line: &mut Vec<u8>) -> Result<Option<bo
 
 /// Reads a line, without its line feed, in place of what `line` held. Whether more come after it:
 /// only the last line has no line feed at its end.
-pub fn read_line<R: BufRead>(input: &mut R, line: &mut Vec<u8>) -> Result<bool, ReportFault>
+pub fn read_line<R: BufRead>(input: &mut R, line: &mut Vec<u8>) -> Result<bool, ReadingFault>
     ensures ok { IfOk result (λ more. ReadsLine (R.remaining input.old) (R.remaining input.new)
         line.new.items more) }
     ensures err { OnErr result ((bytes : List ℕ)

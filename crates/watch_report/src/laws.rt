@@ -1,5 +1,5 @@
 //! Laws of lines and reports: each call makes no step, and its clauses hold of the definitions alone.
-ghost use Rattle.std.specs.Prelude.{◌≡◌, ◌<◌, ◌≤◌, ◌++◌, List, [], ℕ, Some, None};
+ghost use Rattle.std.specs.Prelude.{◌≡◌, ◌<◌, ◌≤◌, ◌++◌, List, [], ℕ, Some, None, is_none, is_some};
 ghost use Rattle.std.specs.List.{Contains};
 ghost use Rattle.pte.specs.declared.scheme.Scheme.{Scheme};
 ghost use Rattle.watch.specs.declared.trace.Record.{Record};
@@ -10,7 +10,10 @@ ghost use Rattle.watch_report.specs.declared.header.Header.{Header};
 ghost use Rattle.watch_report.specs.declared.warning.Trigger.{Trigger};
 ghost use Rattle.watch_report.specs.ReadBack.{HasLine};
 ghost use Rattle.watch_report.specs.RecordLines.{note_text, record_text};
-ghost use Rattle.watch_report.specs.TraceLines.{line_in, record_of};
+ghost use Rattle.watch_report.specs.Fields.{fields_of};
+ghost use Rattle.watch_report.specs.LineFaults.{fault_of, header_fault};
+ghost use Rattle.watch_report.specs.TraceLines.{header_in, line_in, record_of};
+ghost use Rattle.watch_report.specs.TraceText.{has_no_form};
 ghost use Rattle.watch_report.specs.VerdictLines.{trigger_of};
 ghost use Rattle.watch_report.specs.Warnings.{verdict_of};
 
@@ -20,6 +23,14 @@ pub fn printed_record_is_read()
         → hart_of made < header.harts → HasLine made
         → line_in header (record_text header.scheme made ++ note_text by)
         ≡ Some (record_of made by) }
+{}
+
+/// A line has a fault exactly when it has no form, and a first line when it is no header.
+pub fn line_has_a_fault_or_a_form()
+    ensures line { (header : Header) (text : List ℕ)
+        → is_some (fault_of header text) ≡ has_no_form header text }
+    ensures first { (text : List ℕ)
+        → is_some (header_fault text) ≡ is_none (header_in (fields_of text)) }
 {}
 
 /// Each warning at a record has its line, and the line the verdict that is counted: a record of which

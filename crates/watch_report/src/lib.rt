@@ -11,15 +11,19 @@ mod counts;
 mod emit;
 mod fault;
 mod fields;
+mod find_fault;
 mod header;
 mod input;
 mod laws;
 mod line;
+mod line_fault;
+mod line_form;
 mod notes;
 mod numbers;
 mod output;
 mod push;
 mod reading;
+mod reading_fault;
 mod record;
 mod report;
 mod retry;
@@ -27,18 +31,26 @@ mod texts;
 mod trigger;
 mod verdicts;
 mod warning;
+mod word_faults;
+mod worked_faults;
 mod worked_lines;
 mod worked_reports;
 
 pub use counts::{VerdictCounts, push_summary};
 pub use emit::push_record;
 pub use fault::ReportFault;
+pub use find_fault::{find_header_fault, find_line_fault};
 pub use header::{Header, read_header};
-pub use laws::{each_warning_is_printed, printed_record_is_read};
+pub use laws::{each_warning_is_printed, line_has_a_fault_or_a_form, printed_record_is_read};
 pub use line::{Line, read_line};
+pub use line_fault::{LineFault, LineReason};
+pub use line_form::{Field, LineForm};
 pub use report::report_trace;
 pub use retry::{read_retrying, write_retrying};
 pub use warning::{Trigger, Warning, push_warning};
+pub use worked_faults::{
+    worked_fault_texts, worked_formed_lines, worked_header_faults, worked_line_faults,
+};
 pub use worked_lines::{
     worked_headers, worked_readings, worked_records, worked_refusals, worked_summaries,
     worked_warnings,

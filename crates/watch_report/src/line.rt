@@ -26,7 +26,7 @@ pub enum Line<'a> {
 }
 
 /// How many bytes stand before the first `@` or `#`, or at all.
-fn note_start(text: &[u8]) -> usize
+pub(crate) fn note_start(text: &[u8]) -> usize
     ensures { result ≡ position_or_len begins_note text.now }
 {
     first_of_two(b'@', b'#', text)
@@ -42,7 +42,7 @@ fn without_space(text: &[u8]) -> Option<&[u8]>
 
 /// What stands before the note and its space, and what the note says. `None`: no space stands
 /// before the note.
-fn split_note(text: &[u8]) -> Option<(&[u8], &[u8])>
+pub(crate) fn split_note(text: &[u8]) -> Option<(&[u8], &[u8])>
     ensures { MatchOption result (before_note text.now ≡ None)
         (λ parts. (before_note text.now ≡ Some parts.0.now) × (note_of text.now ≡ parts.1.now)) }
 {

@@ -26,7 +26,7 @@ const DIGITS: [u8; 256] = [
 
 /// The value of a digit up to `f`, or 16.
 #[inline(always)]
-fn digit(byte: u8) -> u8
+pub(crate) fn digit(byte: u8) -> u8
     ensures { result ≡ min (digit_value byte) 16 }
 {
     DIGITS[usize::from(byte)]
@@ -106,7 +106,7 @@ pub fn decimal(field: &[u8]) -> Option<u64>
 
 /// The hexadecimal number that 1 to 16 digits write.
 #[inline(always)]
-fn hexadecimal(field: &[u8]) -> Option<u64>
+pub(crate) fn hexadecimal(field: &[u8]) -> Option<u64>
     ensures { result ≡ hexadecimal_field field.now }
 {
     let (number, count) = leading_hexadecimal(field);

@@ -1,5 +1,5 @@
 //! A trace that is being read.
-ghost use Rattle.std.specs.Prelude.{◌≡◌, ◌∷◌, ℕ, List, [], Option, IfErr, IfOk, OnOk, false};
+ghost use Rattle.std.specs.Prelude.{◌≡◌, ◌∷◌, ℕ, List, [], Option, IfErr, IfOk, OnOk, not};
 ghost use Rattle.watch_report.specs.TraceLines.{line_in};
 ghost use Rattle.watch_report.specs.Output.{WritesAll};
 ghost use Rattle.watch_report.specs.Reading.{FailsAtEnd, FailsAtLine, FailsAtRecord, HasSeen, noted_of, Stands};
@@ -8,7 +8,7 @@ ghost use Rattle.watch_report.specs.VerdictLines.{WholeText};
 
 use crate::counting::{count_warnings, has_verdicts, one_more};
 use crate::counts::{VerdictCounts, push_summary};
-use crate::fault::ReportFault;
+use crate::reading_fault::ReadingFault;
 use crate::header::Header;
 use crate::line::{Line, read_line};
 use crate::notes::Notes;
@@ -56,7 +56,7 @@ impl Reading {
         made: Record,
         by: &[u8],
         out: &mut W,
-    ) -> Result<(), ReportFault>
+    ) -> Result<(), ReadingFault>
         ensures header { self.new.header ≡ self.old.header }
         ensures ok { (start : Option (List ℕ)) (records : List Noted)
             → Stands start (W.contents out.old) records self.old
@@ -84,35 +84,33 @@ impl Reading {
         write_whole(out, lines.as_slice())
     }
 
-    /// Takes the next line, which has this number.
-    pub fn take_line<W: Write>(
-        &mut self,
-        number: u64,
-        line: &[u8],
-        out: &mut W,
-    ) -> Result<(), ReportFault>
+    /// Takes the next line. Whether it has a form: of one that has none nothing is taken.
+    pub fn take_line<W: Write>(&mut self, line: &[u8], out: &mut W) -> Result<bool, ReadingFault>
         ensures header { self.new.header ≡ self.old.header }
+        ensures form { IfOk result (λ taken. has_no_form self.old.header line.now ≡ not taken) }
         ensures ok { (start : Option (List ℕ)) (records : List Noted)
             → Stands start (W.contents out.old) records self.old
-            → OnOk result ((has_no_form self.old.header line.now ≡ false)
-            × Stands start (W.contents out.new)
+            → OnOk result (Stands start (W.contents out.new)
             (with_record (line_in self.old.header line.now) records) self.new) }
         ensures err { (start : Option (List ℕ)) (records : List Noted)
             → Stands start (W.contents out.old) records self.old
-            → IfErr result (λ fault. FailsAtLine fault self.old.header number line.now records
+            → IfErr result (λ fault. FailsAtLine fault self.old.header line.now records
             start (W.contents out.new)) }
     {
         match read_line(self.header, line) {
-            Some(Line::Record { record, by }) => self.take_record(record, by, out),
-            Some(Line::Mark(_)) => Ok(()),
-            Some(Line::Comment) => Ok(()),
-            Some(Line::Empty) => Ok(()),
-            None => Err(ReportFault::Line(number)),
+            Some(Line::Record { record, by }) => match self.take_record(record, by, out) {
+                Ok(()) => Ok(true),
+                Err(fault) => Err(fault),
+            },
+            Some(Line::Mark(_)) => Ok(true),
+            Some(Line::Comment) => Ok(true),
+            Some(Line::Empty) => Ok(true),
+            None => Ok(false),
         }
     }
 
     /// Writes the last line. Whether there was a verdict.
-    pub fn finish<W: Write>(&self, out: &mut W) -> Result<bool, ReportFault>
+    pub fn finish<W: Write>(&self, out: &mut W) -> Result<bool, ReadingFault>
         ensures ok { (start : Option (List ℕ)) (records : List Noted)
             → Stands start (W.contents out.old) records self.now
             → IfOk result (λ some. WritesAll (WholeText self.now.header.scheme records some)

@@ -9,10 +9,10 @@ use pte::{ASID_BITS, PPN_BITS, PPN_LIMIT, Scheme};
 use watch::{AddressRange, Claim, Frames, Record, RemoteFence, Space};
 
 /// The lowest bit of MODE in satp (privileged manual 4.1.11).
-const MODE_SHIFT: u32 = 60;
+pub(crate) const MODE_SHIFT: u32 = 60;
 
 /// How many ASIDs there are.
-const ASIDS: u64 = 1 << ASID_BITS;
+pub(crate) const ASIDS: u64 = 1 << ASID_BITS;
 
 /// MODE of satp for a scheme (privileged manual 4.1.11).
 pub fn satp_mode(scheme: Scheme) -> u64
@@ -25,7 +25,7 @@ pub fn satp_mode(scheme: Scheme) -> u64
 }
 
 /// What is written to satp. `None`: its mode is neither Bare nor that of the scheme.
-fn satp_space(scheme: Scheme, satp: u64) -> Option<Option<Space>>
+pub(crate) fn satp_space(scheme: Scheme, satp: u64) -> Option<Option<Space>>
     ensures { result ≡ satp_in scheme satp }
 {
     if satp >> MODE_SHIFT == 0 {

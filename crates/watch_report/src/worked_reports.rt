@@ -14,14 +14,19 @@ pub fn worked_endings()
     ensures faulty { reports.faulty }
     ensures torn { reports.torn }
     ensures cut_off { reports.cut_off }
+    ensures cut_off_at_a_fault { reports.cut_off_at_a_fault }
 {}
 
 /// What no report leaves.
 #[tactic(auto, using(crate::proofs::WorkedReports::refusals))]
 pub fn refused_endings()
     ensures other_line { reports.other_line }
+    ensures other_fault { reports.other_fault }
     ensures done_with_a_fault { reports.done_with_a_fault }
     ensures warned_without_a_verdict { reports.warned_without_a_verdict }
+    ensures warned_at_a_fault { reports.warned_at_a_fault }
+    ensures warned_without_a_header { reports.warned_without_a_header }
+    ensures no_last_line_at_a_fault { reports.no_last_line_at_a_fault }
     ensures nothing_printed { reports.nothing_printed }
 {}
 

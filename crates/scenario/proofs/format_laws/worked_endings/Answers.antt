@@ -13,3 +13,7 @@ returns-clause-wrong_script c = (refl, refl)
 pub returns-clause-wrong_line : goal.returns-clause-wrong_line
 unfolding digits
 returns-clause-wrong_line c = (refl, refl)
+
+pub returns-clause-wrong_line_after_a_verdict : goal.returns-clause-wrong_line_after_a_verdict
+unfolding digits
+returns-clause-wrong_line_after_a_verdict c = (refl, refl)

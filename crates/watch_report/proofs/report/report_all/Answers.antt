@@ -1,13 +1,15 @@
-use Rattle.std.proofs.Common.{◌≡◌, [], List, ℕ, None, Some, Err, ap, subst, sym, ◌∙◌, true, false, rules}
+use Rattle.std.proofs.Common.{◌≡◌, [], List, ℕ, None, Some, Ok, Err, ap, subst, sym, ◌∙◌, true, false, rules}
 use Rattle.std.proofs.KnownBytes.{Appends-nil}
 use Rattle.std.proofs.lemmas.Result.{err_from_is_err_and}
 use Rattle.watch_report.specs.Fields.{fields_of}
+use Rattle.watch_report.specs.Ending.{IsLine}
+use Rattle.watch_report.specs.LineFaults.{header_fault}
 use Rattle.watch_report.specs.TraceLines.{header_in}
-use Rattle.watch_report.specs.declared.fault.ReportFault.TheVariants.{Line}
+use Rattle.watch_report.specs.Reading.{report_fault_of}
 use Rattle.watch_report.specs.Reading.{ReadsLine, Stands}
-use Rattle.watch_report.specs.TraceText.{lines_of}
+use Rattle.watch_report.specs.TraceText.{lines_of, or_line, said_first}
 use Rattle.watch_report.proofs.ReadLemmas.{first_text, last_text, line_text, none_read, none_taken, torn_text}
-use Rattle.watch_report.proofs.EndingLemmas.{ended, ends_without_header, with_header, without_a_line}
+use Rattle.watch_report.proofs.EndingLemmas.{ends_done, ends_undone, ends_without_header, failed_end, with_header, without_a_line, written_end}
 use Rattle.watch_report.proofs.report.report_all.Goals as goal
 
 pub returns-in_err-more : goal.returns-in_err-more
@@ -22,8 +24,28 @@ returns-in_default g c =
     let first = c.read_line.new.line.items in
     let whole = line_text _ _ _ _ [] first (none_read _) c.in_ok-more.ensures.ok in
     let none : header_in (fields_of first) ≡ None =
-    ap (λ (l : List ℕ). header_in (fields_of l)) (sym c.as_slice.ensures.value) ∙ sym c.read_header.ensures ∙ c.in_default.is in
-    with_header _ first whole.0 None (Err (Line 1)) (g.W.Write.contents c.args.out.now) (g.W.Write.contents c.args.out.now) whole.1 none (ends_without_header whole.0 _)
+    ap (λ (l : List ℕ). header_in (fields_of l)) (sym c.as_slice-text.ensures.value) ∙ sym c.read_header.ensures ∙ c.in_default.is in
+    let said : said_first first ≡ Err first = ap (or_line first) none in
+    let told : IsLine 1 (header_fault first) false c.first_line_fault.result = subst (λ (l : List ℕ). IsLine 1 (header_fault l) false c.first_line_fault.result) c.as_slice-text.ensures.value c.first_line_fault.ensures in
+    with_header _ first whole.0 (Err first) (Err c.first_line_fault.result) (g.W.Write.contents c.args.out.now) (g.W.Write.contents c.args.out.now) whole.1 said (ends_without_header c.first_line_fault.result first whole.0 _ told)
+
+pub first_line_fault-requires : goal.first_line_fault-requires
+first_line_fault-requires g c = sym c.read_header.ensures ∙ c.in_default.is
+
+pub returns-in_err-some : goal.returns-in_err-some
+returns-in_err-some g c =
+    let first = c.read_line.new.line.items in
+    let e : c.in_ok-more.more ≡ false = search rules in
+    let p = err_from_is_err_and c.from_residual-in_err-some.result c.from_residual-in_err-some.ensures.1 in
+    let read = subst (ReadsLine _ _ first) e c.in_ok-more.ensures.ok in
+    let whole = last_text _ _ _ [] first (none_read _) read in
+    let some : header_in (fields_of first) ≡ Some c.in-Some.header =
+    ap (λ (l : List ℕ). header_in (fields_of l)) (sym c.as_slice-text.ensures.value) ∙ sym c.read_header.ensures ∙ c.in-Some.is in
+    let said : said_first first ≡ Ok c.in-Some.header = ap (or_line first) some in
+    let stands : Stands (g.W.Write.contents c.args.out.now) (g.W.Write.contents c.args.out.now) [] c.new.result = record { given = []; seen = c.new.ensures.seen; written = Appends-nil _ } in
+    let fails = failed_end _ _ c.in-Some.header [] _ _ c.new.ensures.header (c.in_err-some.ensures.err _ [] stands) in
+    let ends = ends_undone _ c.in-Some.header [] [] _ _ (none_taken c.in-Some.header) fails in
+    rw (p.1, p.2) (with_header _ first [] (Ok c.in-Some.header) (Err (report_fault_of c.in_err-some.field-0.0)) (g.W.Write.contents c.args.out.now) (g.W.Write.contents c.finish.new.out) whole said ends)
 
 pub returns-then-not-more : goal.returns-then-not-more
 returns-then-not-more g c =
@@ -32,10 +54,12 @@ returns-then-not-more g c =
     let read = subst (ReadsLine _ _ first) e c.in_ok-more.ensures.ok in
     let whole = last_text _ _ _ [] first (none_read _) read in
     let some : header_in (fields_of first) ≡ Some c.in-Some.header =
-    ap (λ (l : List ℕ). header_in (fields_of l)) (sym c.as_slice.ensures.value) ∙ sym c.read_header.ensures ∙ c.in-Some.is in
+    ap (λ (l : List ℕ). header_in (fields_of l)) (sym c.as_slice-text.ensures.value) ∙ sym c.read_header.ensures ∙ c.in-Some.is in
+    let said : said_first first ≡ Ok c.in-Some.header = ap (or_line first) some in
     let stands : Stands (g.W.Write.contents c.args.out.now) (g.W.Write.contents c.args.out.now) [] c.new.result = record { given = []; seen = c.new.ensures.seen; written = Appends-nil _ } in
-    let ends = ended c.finish.result _ c.in-Some.header [] [] _ _ c.new.ensures.header (none_taken c.in-Some.header) (c.finish.ensures.ok _ [] stands) (c.finish.ensures.err _ [] stands) in
-    with_header _ first [] (Some c.in-Some.header) c.finish.result (g.W.Write.contents c.args.out.now) (g.W.Write.contents c.finish.new.out) whole some ends
+    let written = written_end _ _ c.in-Some.header [] _ _ c.new.ensures.header (c.in_ok-some.ensures.ok _ [] stands) in
+    let ends = ends_done _ c.in-Some.header [] [] _ _ (none_taken c.in-Some.header) written in
+    with_header _ first [] (Ok c.in-Some.header) (Ok c.in_ok-some.some) (g.W.Write.contents c.args.out.now) (g.W.Write.contents c.finish.new.out) whole said ends
 
 pub returns : goal.returns
 returns g c =
@@ -45,5 +69,6 @@ returns g c =
     let rest = c.report_lines.ensures in
     let whole = first_text _ _ first rest.0 read rest.1 in
     let some : header_in (fields_of first) ≡ Some c.in-Some.header =
-    ap (λ (l : List ℕ). header_in (fields_of l)) (sym c.as_slice.ensures.value) ∙ sym c.read_header.ensures ∙ c.in-Some.is in
-    with_header _ first (lines_of rest.0) (Some c.in-Some.header) c.report_lines.result (g.W.Write.contents c.args.out.now) (g.W.Write.contents c.report_lines.new.out) whole some rest.2
+    ap (λ (l : List ℕ). header_in (fields_of l)) (sym c.as_slice-text.ensures.value) ∙ sym c.read_header.ensures ∙ c.in-Some.is in
+    let said : said_first first ≡ Ok c.in-Some.header = ap (or_line first) some in
+    with_header _ first (lines_of rest.0) (Ok c.in-Some.header) c.report_lines.result (g.W.Write.contents c.args.out.now) (g.W.Write.contents c.report_lines.new.out) whole said rest.2

@@ -1,6 +1,6 @@
 use Rattle.std.proofs.Common.{[]}
 use Rattle.std.specs.Option.{unwrap_or}
-use Rattle.watch_report.specs.declared.fault.ReportFault.TheVariants.{NoMemory}
+use Rattle.watch_report.specs.declared.reading_fault.ReadingFault.TheVariants.{NoMemory}
 use Rattle.watch_report.proofs.ReadLemmas.{all_text}
 use Rattle.watch_report.proofs.EndingLemmas.{without_a_line}
 use Rattle.watch_report.proofs.report.report_trace.Goals as goal

@@ -1,0 +1,216 @@
+-- The worked faults of lines, computed.
+use Rattle.std.proofs.Common.{refl}
+use Rattle.std.specs.Fmt.{digits}
+use Rattle.watch_report.specs.WorkedFaults as faults
+
+pub empty_start : faults.empty_start
+empty_start = refl
+
+pub scenario : faults.scenario
+scenario = refl
+
+pub upper_case : faults.upper_case
+upper_case = refl
+
+pub other_version : faults.other_version
+other_version = refl
+
+pub no_harts : faults.no_harts
+no_harts = refl
+
+pub too_many_harts : faults.too_many_harts
+too_many_harts = refl
+
+pub harts_in_a_word : faults.harts_in_a_word
+harts_in_a_word = refl
+
+pub other_scheme : faults.other_scheme
+other_scheme = refl
+
+pub no_scheme : faults.no_scheme
+no_scheme = refl
+
+pub more_than_a_scheme : faults.more_than_a_scheme
+more_than_a_scheme = refl
+
+pub header_before_a_space : faults.header_before_a_space
+header_before_a_space = refl
+
+pub header_of_windows : faults.header_of_windows
+header_of_windows = refl
+
+pub fewest_harts : faults.fewest_harts
+fewest_harts = refl
+
+pub most_harts : faults.most_harts
+most_harts = refl
+
+pub two_spaces : faults.two_spaces
+two_spaces = refl
+
+pub space_in_front : faults.space_in_front
+space_in_front = refl
+
+pub space_at_the_end : faults.space_at_the_end
+space_at_the_end = refl
+
+pub two_spaces_before_a_note : faults.two_spaces_before_a_note
+two_spaces_before_a_note = refl
+
+pub line_of_windows : faults.line_of_windows
+line_of_windows = refl
+
+pub unknown_letter : faults.unknown_letter
+unknown_letter = refl
+
+pub two_letters : faults.two_letters
+two_letters = refl
+
+pub mark_with_no_space : faults.mark_with_no_space
+mark_with_no_space = refl
+
+pub no_hart_field : faults.no_hart_field
+no_hart_field = refl
+
+pub no_value : faults.no_value
+no_value = refl
+
+pub no_asid : faults.no_asid
+no_asid = refl
+
+pub field_too_many : faults.field_too_many
+field_too_many = refl
+
+pub digit_g : faults.digit_g
+digit_g = refl
+
+pub dash_for_a_token : faults.dash_for_a_token
+dash_for_a_token = refl
+
+pub name_of_a_register : faults.name_of_a_register
+name_of_a_register = refl
+
+pub prefixed : faults.prefixed
+prefixed = refl
+
+pub seventeen_digits : faults.seventeen_digits
+seventeen_digits = refl
+
+pub hart_in_hexadecimal : faults.hart_in_hexadecimal
+hart_in_hexadecimal = refl
+
+pub hart_too_great : faults.hart_too_great
+hart_too_great = refl
+
+pub unaligned_word : faults.unaligned_word
+unaligned_word = refl
+
+pub wide_asid : faults.wide_asid
+wide_asid = refl
+
+pub satp_of_mode_1 : faults.satp_of_mode_1
+satp_of_mode_1 = refl
+
+pub satp_of_the_other_scheme : faults.satp_of_the_other_scheme
+satp_of_the_other_scheme = refl
+
+pub no_space_before_a_note : faults.no_space_before_a_note
+no_space_before_a_note = refl
+
+pub note_alone : faults.note_alone
+note_alone = refl
+
+pub note_after_a_space : faults.note_after_a_space
+note_after_a_space = refl
+
+pub hart_before_the_address : faults.hart_before_the_address
+hart_before_the_address = refl
+
+pub address_before_what_is_missing : faults.address_before_what_is_missing
+address_before_what_is_missing = refl
+
+pub letters_in_upper_case : faults.letters_in_upper_case
+letters_in_upper_case = refl
+
+pub dash : faults.dash
+dash = refl
+
+pub sixteen_digits : faults.sixteen_digits
+sixteen_digits = refl
+
+pub last_hart : faults.last_hart
+last_hart = refl
+
+pub aligned_word : faults.aligned_word
+aligned_word = refl
+
+pub widest_asid : faults.widest_asid
+widest_asid = refl
+
+pub every_asid : faults.every_asid
+every_asid = refl
+
+pub satp_of_the_scheme : faults.satp_of_the_scheme
+satp_of_the_scheme = refl
+
+pub satp_of_bare : faults.satp_of_bare
+satp_of_bare = refl
+
+pub noted : faults.noted
+noted = refl
+
+pub return_in_a_note : faults.return_in_a_note
+return_in_a_note = refl
+
+pub comment_line : faults.comment_line
+comment_line = refl
+
+pub mark : faults.mark
+mark = refl
+
+pub empty_line : faults.empty_line
+empty_line = refl
+
+pub text_of_harts : faults.text_of_harts
+unfolding digits
+text_of_harts = refl
+
+pub text_of_what_is_missing : faults.text_of_what_is_missing
+unfolding digits
+text_of_what_is_missing = refl
+
+pub text_of_a_field_too_many : faults.text_of_a_field_too_many
+unfolding digits
+text_of_a_field_too_many = refl
+
+pub text_of_no_number : faults.text_of_no_number
+unfolding digits
+text_of_no_number = refl
+
+pub text_of_no_hart : faults.text_of_no_hart
+unfolding digits
+text_of_no_hart = refl
+
+pub text_of_an_address : faults.text_of_an_address
+unfolding digits
+text_of_an_address = refl
+
+pub text_of_an_asid : faults.text_of_an_asid
+unfolding digits
+text_of_an_asid = refl
+
+pub text_of_a_mode : faults.text_of_a_mode
+unfolding digits
+text_of_a_mode = refl
+
+pub text_of_a_mode_in_sv48 : faults.text_of_a_mode_in_sv48
+unfolding digits
+text_of_a_mode_in_sv48 = refl
+
+pub ruleset wrong_headers = (empty_start, scenario, upper_case, other_version, no_harts, too_many_harts, harts_in_a_word, other_scheme, no_scheme, more_than_a_scheme, header_before_a_space, header_of_windows, fewest_harts, most_harts)
+
+pub ruleset wrong_lines = (two_spaces, space_in_front, space_at_the_end, two_spaces_before_a_note, line_of_windows, unknown_letter, two_letters, mark_with_no_space, no_hart_field, no_value, no_asid, field_too_many, digit_g, dash_for_a_token, name_of_a_register, prefixed, seventeen_digits, hart_in_hexadecimal, hart_too_great, unaligned_word, wide_asid, satp_of_mode_1, satp_of_the_other_scheme, no_space_before_a_note, note_alone, note_after_a_space, hart_before_the_address, address_before_what_is_missing)
+
+pub ruleset formed_lines = (letters_in_upper_case, dash, sixteen_digits, last_hart, aligned_word, widest_asid, every_asid, satp_of_the_scheme, satp_of_bare, noted, return_in_a_note, comment_line, mark, empty_line)
+
+pub ruleset fault_texts = (text_of_harts, text_of_what_is_missing, text_of_a_field_too_many, text_of_no_number, text_of_no_hart, text_of_an_address, text_of_an_asid, text_of_a_mode, text_of_a_mode_in_sv48)
