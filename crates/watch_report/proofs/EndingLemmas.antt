@@ -10,14 +10,13 @@ use Rattle.watch_report.specs.LineFaults.{fault_of, header_fault}
 use Rattle.watch_report.specs.TraceLines.{LineText, line_in}
 use Rattle.watch_report.specs.declared.fault.ReportFault.{ReportFault}
 use Rattle.watch_report.specs.declared.fault.ReportFault.TheVariants as reported
-use Rattle.watch_report.specs.declared.line_fault.LineFault.{LineFault}
 use Rattle.watch_report.specs.declared.reading_fault.ReadingFault.{ReadingFault}
 use Rattle.watch_report.specs.declared.reading_fault.ReadingFault.TheVariants.{Unreadable, Output, NoMemory}
 use Rattle.watch_report.specs.declared.reading.Reading.{Reading}
 use Rattle.watch_report.specs.Ending.{Ends, EndsBy, IsLine, Tells}
 use Rattle.watch_report.specs.Output.{WritesAll, WritesFront}
 use Rattle.watch_report.specs.Reading.{FailsAtEnd, FailsAtLine, IsReadFault, Stands, report_fault_of}
-use Rattle.watch_report.specs.TraceText.{Noted, body_of, fault_in, faulty_line, has_no_form, header_of, lines_of, records_of, said_first, with_record}
+use Rattle.watch_report.specs.TraceText.{Noted, body_of, faulty_line, has_no_form, header_of, lines_of, records_of, said_first, with_record}
 use Rattle.watch_report.specs.VerdictLines.{VerdictText, WholeText, verdict_lines}
 use Rattle.watch_report.proofs.ReadLemmas.{AreTaken, IsText, all_formed, more_taken, records_of_all, records_of_front, stops}
 
@@ -83,7 +82,7 @@ ends_at_fault (reported.Line n fault warned) header number read tail line record
       faulty_at header read tail line records at none ∙ ap Some (sym (is.0 ∙ e)),
       ap (fault_of header) (line_at read tail line (n - 2) place) ∙ is.1,
       front_told header read tail line records (λ (r : List Noted). WritesAll (WholeText header.scheme r warned) start out) at none
-      (subst (λ (b : Bool). WritesAll (WholeText header.scheme records b) start out) (sym is.2) written),
+          (subst (λ (b : Bool). WritesAll (WholeText header.scheme records b) start out) (sym is.2) written),
     )
 
 -- and the last line was not written

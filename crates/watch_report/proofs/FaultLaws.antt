@@ -19,7 +19,7 @@ use Rattle.watch_report.specs.Fields.{◌>>=◌, fields_of, hart_field, hexadeci
 use Rattle.watch_report.specs.LineForms.{form_fields, form_of}
 use Rattle.watch_report.specs.LineFaults.{any_machine, fault_at, fault_of, fields_fault, first_of, header_fault, noted_fault, or_wrong, record_fault, unless, word_reason, words_fault}
 use Rattle.watch_report.specs.Records.{asid_field, claim_begin_in, claim_end_in, fence_in, give_back_in, give_out_in, record_by, remote_begin_in, remote_end_in, satp_in, satp_write_in, small_asid, store_in, use_in}
-use Rattle.watch_report.specs.TraceLines.{LineText, comment, empty, mark_of, before_note, begins_note, hart_count_field, header_in, line_in, note_of, record_in, record_of, scheme_field}
+use Rattle.watch_report.specs.TraceLines.{LineText, comment, empty, mark_of, before_note, begins_note, hart_count_field, header_in, note_of, record_in, record_of, scheme_field}
 use Rattle.watch_report.specs.TraceText.{has_no_form}
 
 or_true : (b : Bool) → (b || true) ≡ true
@@ -140,11 +140,11 @@ module _ (m : Header) (hart : ℕ) where
   two_numbers made a b why other =
       chain (hexadecimal_field a) _ _ _ (number_bad (hexadecimal_field a) why) (λ n. chain (hexadecimal_field b) _ false _ (number_bad (hexadecimal_field b) other) (λ k. refl))
 
-  store_bad : (words : List (List ℕ)) → bad m (named.Address ∷ named.Value ∷ []) words ≡ is_none (store_in hart words)
+  store_bad : (words : List (List ℕ)) → bad m (named.PhysicalAddress ∷ named.Value ∷ []) words ≡ is_none (store_in hart words)
   store_bad [] = refl
-  store_bad (a ∷ []) = bad_uneven m (named.Address ∷ named.Value ∷ []) (a ∷ []) refl
+  store_bad (a ∷ []) = bad_uneven m (named.PhysicalAddress ∷ named.Value ∷ []) (a ∷ []) refl
   store_bad (a ∷ b ∷ []) = store_two (hexadecimal_field a) (hexadecimal_field b) _ _ _
-  store_bad (a ∷ b ∷ c ∷ words) = bad_uneven m (named.Address ∷ named.Value ∷ []) (a ∷ b ∷ c ∷ words) refl
+  store_bad (a ∷ b ∷ c ∷ words) = bad_uneven m (named.PhysicalAddress ∷ named.Value ∷ []) (a ∷ b ∷ c ∷ words) refl
 
   satp_bad : (words : List (List ℕ)) → bad m (named.Satp ∷ []) words ≡ is_none (satp_write_in m.scheme hart words)
   satp_bad [] = refl
@@ -203,10 +203,10 @@ module _ (m : Header) (hart : ℕ) where
   claim_end_bad (a ∷ []) = one_number _ a _
   claim_end_bad (a ∷ b ∷ words) = bad_uneven m (named.Token ∷ []) (a ∷ b ∷ words) refl
 
-  use_bad : (words : List (List ℕ)) → bad m (named.Used ∷ []) words ≡ is_none (use_in hart words)
+  use_bad : (words : List (List ℕ)) → bad m (named.VirtualAddress ∷ []) words ≡ is_none (use_in hart words)
   use_bad [] = refl
   use_bad (a ∷ []) = one_number _ a _
-  use_bad (a ∷ b ∷ words) = bad_uneven m (named.Used ∷ []) (a ∷ b ∷ words) refl
+  use_bad (a ∷ b ∷ words) = bad_uneven m (named.VirtualAddress ∷ []) (a ∷ b ∷ words) refl
 
 -- ---- the letter
 

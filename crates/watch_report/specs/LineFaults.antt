@@ -5,7 +5,6 @@ use Rattle.std.specs.Char.{digit_value}
 use Rattle.std.specs.List.{before_first, list_all, position_or_len, starts_with}
 use Rattle.std.specs.Str.{bytes_eq}
 use Rattle.pte.specs.declared.TheConstants.{ASID_BITS}
-use Rattle.pte.specs.declared.scheme.Scheme.{Scheme}
 use Rattle.pte.specs.declared.scheme.Scheme.TheVariants.{Sv39}
 use Rattle.watch_report.specs.declared.header.Header.{Header}
 use Rattle.watch_report.specs.declared.line_fault.LineFault.{LineFault}

@@ -26,7 +26,7 @@ form_of letter =
 -- the fields of the first line, and those of a record after its letter
 abbrev pub form_fields : LineForm → List Field
 form_fields forms.Header = fields.Watch ∷ fields.Version ∷ fields.Harts ∷ fields.Scheme ∷ []
-form_fields forms.Store = fields.Hart ∷ fields.Address ∷ fields.Value ∷ []
+form_fields forms.Store = fields.Hart ∷ fields.PhysicalAddress ∷ fields.Value ∷ []
 form_fields forms.SatpWrite = fields.Hart ∷ fields.Satp ∷ []
 form_fields forms.Fence = fields.Hart ∷ fields.Rs1 ∷ fields.Rs2 ∷ []
 form_fields forms.RemoteBegin =
@@ -37,7 +37,7 @@ form_fields forms.GiveBack = fields.Hart ∷ fields.Ppn ∷ fields.Count ∷ []
 form_fields forms.ClaimBegin =
     fields.Hart ∷ fields.Token ∷ fields.Root ∷ fields.Start ∷ fields.Size ∷ []
 form_fields forms.ClaimEnd = fields.Hart ∷ fields.Token ∷ []
-form_fields forms.Use = fields.Hart ∷ fields.Used ∷ []
+form_fields forms.Use = fields.Hart ∷ fields.VirtualAddress ∷ []
 
 abbrev pub kind_of : Field → FieldKind
 kind_of fields.Watch = kinds.Name
@@ -45,7 +45,7 @@ kind_of fields.Version = kinds.Version
 kind_of fields.Harts = kinds.HartCount
 kind_of fields.Scheme = kinds.Scheme
 kind_of fields.Hart = kinds.Hart
-kind_of fields.Address = kinds.WordAddress
+kind_of fields.PhysicalAddress = kinds.WordAddress
 kind_of fields.Value = kinds.Number
 kind_of fields.Satp = kinds.Satp
 kind_of fields.Rs1 = kinds.Optional
@@ -58,7 +58,7 @@ kind_of fields.Asid = kinds.Asid
 kind_of fields.Ppn = kinds.Number
 kind_of fields.Count = kinds.Number
 kind_of fields.Root = kinds.Optional
-kind_of fields.Used = kinds.Number
+kind_of fields.VirtualAddress = kinds.Number
 
 -- ---- as the table of the format writes them
 
@@ -81,7 +81,7 @@ field_name fields.Version = codes "version"
 field_name fields.Harts = codes "HARTS"
 field_name fields.Scheme = codes "SCHEME"
 field_name fields.Hart = codes "H"
-field_name fields.Address = codes "PA"
+field_name fields.PhysicalAddress = codes "PA"
 field_name fields.Value = codes "VALUE"
 field_name fields.Satp = codes "SATP"
 field_name fields.Rs1 = codes "RS1"
@@ -94,4 +94,4 @@ field_name fields.Asid = codes "ASID"
 field_name fields.Ppn = codes "PPN"
 field_name fields.Count = codes "COUNT"
 field_name fields.Root = codes "ROOT"
-field_name fields.Used = codes "VA"
+field_name fields.VirtualAddress = codes "VA"

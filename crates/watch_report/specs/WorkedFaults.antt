@@ -114,7 +114,7 @@ abbrev pub field_too_many : Type 0
 field_too_many = IsWrong (codes "u 0 1000 1") 10 (Excess forms.Use)
 
 abbrev pub digit_g : Type 0
-digit_g = IsWrong (codes "u 0 10g0") 5 (NotHexadecimal fields.Used)
+digit_g = IsWrong (codes "u 0 10g0") 5 (NotHexadecimal fields.VirtualAddress)
 
 abbrev pub dash_for_a_token : Type 0
 dash_for_a_token = IsWrong (codes "e 0 -") 5 (NotHexadecimal fields.Token)
@@ -220,7 +220,7 @@ text_of_a_field_too_many =
 
 abbrev pub text_of_no_number : Type 0
 text_of_no_number =
-    IsTold (fault_at 5 (NotHexadecimal fields.Used)) (codes "5: VA is no hexadecimal number")
+    IsTold (fault_at 5 (NotHexadecimal fields.VirtualAddress)) (codes "5: VA is no hexadecimal number")
 
 abbrev pub text_of_no_hart : Type 0
 text_of_no_hart =

@@ -45,7 +45,7 @@ pub enum Field {
     /// H
     Hart,
     /// PA
-    Address,
+    PhysicalAddress,
     /// VALUE
     Value,
     /// SATP
@@ -71,7 +71,7 @@ pub enum Field {
     /// ROOT
     Root,
     /// VA
-    Used,
+    VirtualAddress,
 }
 
 /// What a field may hold.
@@ -134,7 +134,7 @@ pub(crate) fn fields_of_form(form: LineForm) -> &'static [Field]
 {
     match form {
         LineForm::Header => &[Field::Watch, Field::Version, Field::Harts, Field::Scheme],
-        LineForm::Store => &[Field::Hart, Field::Address, Field::Value],
+        LineForm::Store => &[Field::Hart, Field::PhysicalAddress, Field::Value],
         LineForm::SatpWrite => &[Field::Hart, Field::Satp],
         LineForm::Fence => &[Field::Hart, Field::Rs1, Field::Rs2],
         LineForm::RemoteBegin => &[
@@ -154,7 +154,7 @@ pub(crate) fn fields_of_form(form: LineForm) -> &'static [Field]
             Field::Start,
             Field::Size,
         ],
-        LineForm::Use => &[Field::Hart, Field::Used],
+        LineForm::Use => &[Field::Hart, Field::VirtualAddress],
     }
 }
 
@@ -168,7 +168,7 @@ pub(crate) fn kind_of(field: Field) -> FieldKind
         Field::Harts => FieldKind::HartCount,
         Field::Scheme => FieldKind::Scheme,
         Field::Hart => FieldKind::Hart,
-        Field::Address => FieldKind::WordAddress,
+        Field::PhysicalAddress => FieldKind::WordAddress,
         Field::Satp => FieldKind::Satp,
         Field::Asid => FieldKind::Asid,
         Field::Rs1 | Field::Rs2 | Field::Root => FieldKind::Optional,
@@ -179,7 +179,7 @@ pub(crate) fn kind_of(field: Field) -> FieldKind
         | Field::Size
         | Field::Ppn
         | Field::Count
-        | Field::Used => FieldKind::Number,
+        | Field::VirtualAddress => FieldKind::Number,
     }
 }
 
@@ -219,7 +219,7 @@ impl fmt::Display for Field {
             Field::Harts => f.write_str("HARTS"),
             Field::Scheme => f.write_str("SCHEME"),
             Field::Hart => f.write_str("H"),
-            Field::Address => f.write_str("PA"),
+            Field::PhysicalAddress => f.write_str("PA"),
             Field::Value => f.write_str("VALUE"),
             Field::Satp => f.write_str("SATP"),
             Field::Rs1 => f.write_str("RS1"),
@@ -232,7 +232,7 @@ impl fmt::Display for Field {
             Field::Ppn => f.write_str("PPN"),
             Field::Count => f.write_str("COUNT"),
             Field::Root => f.write_str("ROOT"),
-            Field::Used => f.write_str("VA"),
+            Field::VirtualAddress => f.write_str("VA"),
         }
     }
 }

@@ -8,11 +8,11 @@ ghost use Rattle.watch_report.specs.VerdictLines.{WholeText};
 
 use crate::counting::{count_warnings, has_verdicts, one_more};
 use crate::counts::{VerdictCounts, push_summary};
-use crate::reading_fault::ReadingFault;
 use crate::header::Header;
 use crate::line::{Line, read_line};
 use crate::notes::Notes;
 use crate::output::write_whole;
+use crate::reading_fault::ReadingFault;
 use crate::trigger::trigger_of;
 use crate::verdicts::lines_by;
 use std::alloc::Global;

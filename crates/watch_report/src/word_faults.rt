@@ -187,12 +187,7 @@ pub fn wrong_word(before: usize, word: &[u8], reason: LineReason) -> LineFault
 }
 
 /// The fault of a word, before which so many bytes stand, if it is wrong there.
-pub fn word_fault(
-    machine: Header,
-    field: Field,
-    before: usize,
-    word: &[u8],
-) -> Option<LineFault>
+pub fn word_fault(machine: Header, field: Field, before: usize, word: &[u8]) -> Option<LineFault>
     requires { before + length word.now < 2 ^ 63 }
     ensures { result ≡ word_fault machine field before word.now }
 {
