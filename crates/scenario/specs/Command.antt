@@ -56,7 +56,7 @@ status_of output_failed = 4
 status_of no_memory = 5
 status_of no_thread = 5
 status_of warned = 1
-status_of (wrong_line number fault warned) = if warned then 1 else 3
+status_of (wrong_line number fault some) = if some then 1 else 3
 
 abbrev pub reason : List ℕ → Ending → List ℕ
 reason file done = []
@@ -70,7 +70,7 @@ reason file output_failed = codes "output failed"
 reason file no_memory = codes "no memory"
 reason file no_thread = codes "no thread"
 reason file warned = []
-reason file (wrong_line number fault warned) =
+reason file (wrong_line number fault some) =
     file ++ codes ":" ++ decimal number ++ codes ":" ++ line_fault_text fault
 
 -- the line on standard error: of a wrong line as compilers write it
@@ -78,8 +78,8 @@ abbrev pub error_line : List ℕ → Ending → List ℕ
 error_line file done = []
 error_line file stale_used = []
 error_line file warned = []
-error_line file (wrong_line number fault warned) =
-    reason file (wrong_line number fault warned) ++ codes "\n"
+error_line file (wrong_line number fault some) =
+    reason file (wrong_line number fault some) ++ codes "\n"
 error_line file ending = codes "svsim: " ++ reason file ending ++ codes "\n"
 
 -- of a file named `f`, an ending has this status and this line
@@ -105,7 +105,7 @@ Suits meaning bytes no_memory = Unit {0}
 Suits meaning bytes no_thread = meaning.StartsThreads × (length bytes ≤ most_bytes)
     × (file_fault meaning bytes ≡ None)
 Suits meaning bytes warned = ⊥
-Suits meaning bytes (wrong_line number fault warned) = ⊥
+Suits meaning bytes (wrong_line number fault some) = ⊥
 
 -- what was written of the lines: all, a beginning, or nothing
 abbrev pub Leaves : (List ℕ → Type 0) → Ending → Option (List ℕ) → Option (List ℕ) → Type 0
@@ -161,5 +161,5 @@ ending_of troubles.Usage = misused
 ending_of troubles.Unreadable = unreadable
 ending_of troubles.TooLarge = too_large
 ending_of troubles.NoThread = no_thread
-ending_of (troubles.Line number fault warned) = wrong_line number fault warned
+ending_of (troubles.Line number fault some) = wrong_line number fault some
 ending_of (troubles.Refused fault) = ending_of_fault fault

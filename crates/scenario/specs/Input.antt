@@ -27,7 +27,7 @@ IsPieceTrouble Usage = ⊥
 IsPieceTrouble Unreadable = Unit {0}
 IsPieceTrouble TooLarge = ⊥
 IsPieceTrouble NoThread = ⊥
-IsPieceTrouble (Line number) = ⊥
+IsPieceTrouble (Line number fault some) = ⊥
 IsPieceTrouble (Refused fault) = fault ≡ NoMemory
 
 -- the same, or the reader has more than a file may have
@@ -36,5 +36,5 @@ IsReadTrouble Usage left = ⊥
 IsReadTrouble Unreadable left = Unit {0}
 IsReadTrouble TooLarge left = IfSome left (λ bytes. most_bytes < length bytes)
 IsReadTrouble NoThread left = ⊥
-IsReadTrouble (Line number) left = ⊥
+IsReadTrouble (Line number fault some) left = ⊥
 IsReadTrouble (Refused fault) left = fault ≡ NoMemory

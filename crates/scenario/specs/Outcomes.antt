@@ -44,7 +44,7 @@ IsUnanswered meaning text troubles.Unreadable = ⊥
 IsUnanswered meaning text troubles.TooLarge = ⊥
 IsUnanswered meaning text troubles.NoThread = meaning.StartsThreads
     × (meaning.fault text ≡ None)
-IsUnanswered meaning text (troubles.Line number fault warned) = ⊥
+IsUnanswered meaning text (troubles.Line number fault some) = ⊥
 IsUnanswered meaning text (troubles.Refused fault) = IsRefused meaning text fault
 
 -- why a run has no answers: no memory, or no thread
@@ -53,7 +53,7 @@ IsUnstarted troubles.Usage = ⊥
 IsUnstarted troubles.Unreadable = ⊥
 IsUnstarted troubles.TooLarge = ⊥
 IsUnstarted troubles.NoThread = Unit {0}
-IsUnstarted (troubles.Line number fault warned) = ⊥
+IsUnstarted (troubles.Line number fault some) = ⊥
 IsUnstarted (troubles.Refused fault) = fault ≡ NoMemory
 
 -- ---- how the code's findings stand for endings

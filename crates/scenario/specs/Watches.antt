@@ -9,7 +9,7 @@ use Rattle.watch_report.specs.declared.fault.ReportFault.TheVariants as faults
 abbrev pub ending_of_report : Result Bool ReportFault → Ending
 ending_of_report (Ok some) = if some then warned else done
 ending_of_report (Err faults.Unreadable) = unreadable
-ending_of_report (Err (faults.Line number fault warned)) = wrong_line number fault warned
+ending_of_report (Err (faults.Line number fault some)) = wrong_line number fault some
 ending_of_report (Err faults.Output) = output_failed
 ending_of_report (Err faults.NoMemory) = no_memory
 
