@@ -29,11 +29,13 @@ fn answer(rt: &HostRuntime) -> Option<u8> {
     match report_trace(rt.alloc(), trace, &mut rt.stdout()) {
         Ok(false) => Some(DONE),
         Ok(true) => Some(WARNED),
-        Err(ReportFault::Line {
-            number,
-            fault,
-            warned,
-        }) => {
+        Err(
+            ReportFault::Line {
+                number,
+                fault,
+                warned,
+            },
+        ) => {
             eprintln!(rt; "{file}:{number}:{fault}").ok()?;
             Some(if warned { WARNED } else { REFUSED })
         }
