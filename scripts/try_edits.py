@@ -1,10 +1,10 @@
 #!/usr/bin/env python3
 """Tries the wrong edits, many at once: try_edits.py [--anew] [--minutes N] [CRATE | CRATE/NAME ..]
 
-Tries those of the crates or edits that are named, or of all crates, lowest first. Each round makes all edits of functions that lie in
-functions of their own, and calls `rt check` once: a caller sees a function's clauses alone, so no edit changes what another's goals are. An
-edit of a definition may change any goal, and has a round of its own. An edit passes if rt prints the goal that scripts/edits.txt names, in
-the function that it edits or in the proof that it names.
+Tries those of the crates or edits that are named, or of all crates, lowest first. Each round makes edits of functions of which no two are
+the same or follow one another in a file, and calls `rt check` once: a caller sees a function's clauses alone, so no edit changes what
+another's goals are. An edit of a definition may change any goal, and has a round of its own. An edit passes if rt prints the goal that
+scripts/edits.txt names, in the function that it edits or in the proof that it names. That the crate is proved without it is for `rt ci`.
 
 It edits the sources in place and puts them back, so it wants them committed, and nothing else may read them meanwhile. A crate whose edits
 have all passed is kept on this machine, by the checksums of all that was read, as `rt ci` keeps proofs; --anew tries it all the same. After
@@ -14,7 +14,7 @@ import argparse, hashlib, math, os, re, resource, signal, subprocess, sys, time
 from edits import TOP, edits, goals_listed
 
 FUNCTION = re.compile(r"^[ \t]*(?:pub(?:\(\w+\))? )?(?:const )?fn \w+", re.M)
-DEFINITION = re.compile(r"\s*(?:pub )?(?:const \w+:|static |ghost (?!use ))")
+DEFINITION = re.compile(r"\s*(?:pub(?:\(\w+\))? )?(?:const \w+:|static |ghost (?!use ))")
 PRINTED = re.compile(r"([\w./]+):(\d+):\d+: (.*)")
 NAMED = re.compile(r"\(`([^`]+)|error: `([^`]+)")
 KEPT = os.path.join(os.environ.get("XDG_CACHE_HOME") or os.path.expanduser("~/.cache"), "melissaledge", "edits")
@@ -32,25 +32,33 @@ class Edit:
             elif key == "new":
                 self.pairs.append((old, text))
 
-    def is_of_definition(self):
-        return not self.file.startswith("src/") or any(DEFINITION.match(old) for old, _ in self.pairs)
+    def is_of_definition(self, text):
+        """Of a file of definitions, or of what stands before the functions and is no `use`."""
+        head = text.index(FUNCTION.search(text)[0]) if FUNCTION.search(text) else len(text)
+        return not self.file.startswith("src/") or any(
+            DEFINITION.match(old) or text.index(old) < head and "use " not in old for old, _ in self.pairs)
 
     def functions(self, text):
-        """Where the functions begin that it edits, by the sources as they stand; a text before all of them counts as one."""
+        """The functions that it edits, by their numbers in the file as it stands; what stands before the first has the number 0."""
         starts = [match.start() for match in FUNCTION.finditer(text)]
-        return {(self.file, max((start for start in starts if start <= text.index(old)), default=0)) for old, _ in self.pairs}
+        return {(self.file, sum(start <= text.index(old) for start in starts)) for old, _ in self.pairs}
+
+
+def beside(places):
+    """These functions, and those before and after them."""
+    return {(file, number + step) for file, number in places for step in (-1, 0, 1)}
 
 
 def rounds_of(tried, texts):
-    """Edits in rounds, of which no two lie in one function. One of a definition may change any goal, so it has a round of its own."""
+    """Edits in rounds, of which no two lie in one function or in two that follow one another, and one of a definition lies alone."""
     rounds = []
     for edit in tried:
-        if edit.is_of_definition():
+        if edit.is_of_definition(texts[edit.file]):
             rounds.append((None, [edit]))
             continue
         places = edit.functions(texts[edit.file])
         for taken, of_round in rounds:
-            if taken is not None and not taken & places:
+            if taken is not None and not taken & beside(places):
                 taken |= places
                 of_round.append(edit)
                 break
@@ -123,7 +131,7 @@ def crates_listed():
 
 
 def checksum(crate, tried, listed):
-    """Of all that decides whether these edits of the crate are refused: the kit, this crate and those below it, the edits and their goals."""
+    """Of all that decides whether these edits pass: the kit, this crate and those below it, the edits, their goals, and the scripts."""
     uses, below, rest = crates_listed(), set(), [crate]
     while rest:
         name = rest.pop()
@@ -140,6 +148,8 @@ def checksum(crate, tried, listed):
                     digest.update(repr((os.path.relpath(path, TOP), read(path))).encode())
     for edit in tried:
         digest.update(repr((edit.name, read(edit.path), listed.get(edit.name))).encode())
+    for script in ("edits.py", "try_edits.py"):
+        digest.update(read(os.path.join(TOP, "scripts", script)).encode())
     return digest.hexdigest()
 
 
@@ -201,7 +211,8 @@ def main():
         sys.exit(__doc__)
     if subprocess.run(["git", "-C", TOP, "diff", "--quiet", "HEAD", "--", "crates"]).returncode:
         sys.exit("try_edits.py: crates/ differs from the last commit")
-    signal.signal(signal.SIGTERM, lambda *_: sys.exit("try_edits.py: ended"))  # and what was edited is put back
+    for ended in (signal.SIGTERM, signal.SIGHUP):
+        signal.signal(ended, lambda *_: sys.exit("try_edits.py: ended"))  # and what was edited is put back
     tally = Tally(words.minutes)
     for crate in crates_listed():
         tried = [Edit(name, found[name]) for name in named if name.split("/")[0] == crate]

@@ -55,8 +55,10 @@ class Finding:
 class Trace:
     """What the reasons are read from: fences, flushes and satps, each by its hart in the order of the records."""
 
-    def __init__(self, path):
+    def __init__(self, path, judged):
+        """Of as many records as were judged: `watch` ends at a wrong line."""
         self.lines, self.notes = [0], {}  # of each record its line, and its note
+        self.judged, self.is_cut = judged, False
         self.fences, self.remotes, self.satps, self.events = (defaultdict(list) for _ in range(4))
         self.flushes, self.flush_ending, self.top = [], {}, 2
         open_remotes, open_flushes = {}, {}
@@ -73,6 +75,9 @@ class Trace:
             remotes.sort()
 
     def add(self, number, line, open_remotes, open_flushes):
+        if len(self.lines) > self.judged:
+            self.is_cut = True
+            return
         note = NOTE.search(line)
         fields = line[: note.start()] if note else line
         try:
@@ -239,10 +244,15 @@ def told(path, trace, key, findings):
     yield f"{path}:{trace.lines[one.since]}: stale from here on; {path}:{trace.lines[one.first]}: {verdict}"
 
 
+def judged_by(last):
+    """How many records were judged, by the line with the counts; all that the trace has, where there is none."""
+    return int(last.split()[0]) if re.match(r"\d+ records?, ", last) else sys.maxsize
+
+
 def causes_of(program, path):
     """The causes in their order, each with its findings; what `watch` says last, and its status; and the trace."""
     findings, last, status = findings_of(program, path)
-    trace, causes = Trace(path), defaultdict(list)
+    trace, causes = Trace(path, judged_by(last)), defaultdict(list)
     for finding in findings:
         finding.reach = trace.reach(finding)
         causes[finding.page.is_global, finding.kind, trace.reason(finding)].append(finding)
@@ -262,7 +272,7 @@ def main(words):
     for number, (key, findings) in enumerate(causes, 1):
         print(f"{number}. " + "\n   ".join(told(path, trace, key, findings)))
     print(f"{counted(len(causes), 'cause')}, {counted(sum(len(findings) for _, findings in causes), 'finding')}; {last or 'not all was judged'}".rstrip())
-    if status > 1:
+    if status > 1 or trace.is_cut:
         print(f"watch_causes.py: `watch` ended with status {status} (docs/FORMAT.md): these are its verdicts before that", file=sys.stderr)
     return status
 

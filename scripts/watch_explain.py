@@ -13,7 +13,7 @@ PROGRAM stands for ./svsim. No proof stands behind the choice of lines: verdicts
 """
 import os, sys
 from bisect import bisect_left, bisect_right
-from watch_causes import TOP, Fence, Remote, Trace, covers_page, covers_space, findings_of, is_for, is_flush_of
+from watch_causes import TOP, Fence, Remote, Trace, covers_page, covers_space, findings_of, is_for, is_flush_of, judged_by
 from watch_definitions import holds, kind, read
 
 TELLS = {"claim": "the flush returns", "free": "its frame is given back", "reuse": "its frame is given out again", "use": "the hart uses the page"}
@@ -140,8 +140,8 @@ def picked(findings, record, hart, page):
 
 def story_of(program, path, line, hart=None, page=None):
     """The finding, and the lines of its story; nothing if there is no such verdict."""
-    findings, _, _ = findings_of(program, path)
-    trace = Trace(path)
+    findings, last, _ = findings_of(program, path)
+    trace = Trace(path, judged_by(last))
     place = bisect_left(trace.lines, line)
     finding = picked(findings, place, hart, page) if place < len(trace.lines) and trace.lines[place] == line else None
     return (finding, list(Story(path, trace, finding).lines())) if finding else (None, [])

@@ -1,5 +1,5 @@
--- Findings: what one record made stale of one page for one hart. Their causes: what the findings have
--- in common by which a verdict began.
+-- A finding is what one record made stale of one page for one hart. Its cause is whether the page is
+-- global, the kind of its first verdict, and the reason of that.
 use Rattle.std.specs.Prelude.{ℕ, Bool, ◌==◌, ◌&&◌, if◌then◌else◌, List, [], ◌∷◌, Option, Some, None}
 use Rattle.std.specs.Option.{is_none, option_or, unwrap_or}
 use Rattle.std.specs.Ordering.{bool_cmp, nat_cmp, ordering_then}

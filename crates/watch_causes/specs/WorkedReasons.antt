@@ -185,7 +185,7 @@ freed_after_flush_beside =
     (mapped ++ leaf_cleared ∷ flushes ∷ asks ∷ ClaimBegin 0 8 (record { root = Some 0x80000; range = next_range }) ∷ [])
     6 NotDone
 
--- given out within the flush, and after a fence that another hart asked for
+-- given out within the flush
 abbrev pub reused_within_flush : Type 0
 reused_within_flush =
     IsBecause (mapped ++ leaf_cleared ∷ flushes ∷ asks ∷ []) (given_out 0x100) (warning Reuse 1 (page writable) 6)

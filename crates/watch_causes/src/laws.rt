@@ -26,7 +26,7 @@ pub fn ended_flush_is_the_open_one()
 {}
 
 /// A verdict has one finding, and two verdicts have the same exactly if they agree in the record that
-/// made the page stale, the hart, the page and, if it is not global, its root and its ASID.
+/// made the page stale, the hart, the page, whether it is global and, if not, its root and its ASID.
 #[tactic(auto, using(crate::proofs::Apart::one_finding))]
 pub fn verdict_has_one_finding()
     ensures { (a b : Warning) → (finding_of a ≡ finding_of b) ↔ AreOfOneFinding a b }

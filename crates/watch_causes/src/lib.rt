@@ -1,5 +1,6 @@
-//! The causes of the verdicts on a trace: what one record made stale is a finding, and findings with
-//! the same reason are a cause.
+//! The causes of the verdicts on a trace. A finding is what one record made stale of one page for one
+//! hart; a cause is all findings of global pages, or all of others, that begin with the same kind of
+//! verdict for the same reason.
 #![tactic(auto)]
 
 mod causes;

@@ -10,7 +10,7 @@ pub enum Reason {
     NoFence,
     /// None of its fences is for the hart.
     OtherHarts,
-    /// None of those is for the ASID; by an ASID none is for what is global.
+    /// None of those is for the ASID. A fence by ASID takes out nothing that is global.
     OtherSpaces,
     /// None of those is for the page.
     OtherPages,
