@@ -23,8 +23,8 @@ from watch_definitions import is_fenced, reaches, read
 
 TOP = os.path.dirname(os.path.dirname(os.path.abspath(__file__)))
 VERDICT = re.compile(
-    r"(\d+) (kernel-)?(free|reuse|claim|use) hart (\d+) may hold page ([0-9a-f]+)\+([0-9a-f]+) -> [0-9a-f]+ \S{5} "
-    r"asid (\S+) root (\S+), stale since (\d+).*")
+    r"(\d+): (kernel-)?(free|reuse|claim|use) hart (\d+) may hold page ([0-9a-f]+)\+([0-9a-f]+) -> [0-9a-f]+ \S{5} "
+    r"asid (\S+) root (\S+), stale since line (\d+).*")
 NOTE = re.compile(r" [@#](.*)$")
 Page = namedtuple("Page", "base level is_global asid root")
 Fence = namedtuple("Fence", "record hart rs1 rs2")
@@ -45,11 +45,22 @@ MOST_NOTES = 5
 class Finding:
     def __init__(self, page, hart, since, first, kind, text):
         self.page, self.hart, self.since, self.first, self.kind, self.text = page, hart, since, first, kind, text
-        self.given = []  # records and verdicts
+        self.given, self.place = [], 0  # records and verdicts; which of the findings it is
 
     @property
     def verdicts(self):
         return Counter(verdict for _, verdict in self.given)
+
+
+def is_record(line):
+    return bool(line.strip()) and line[0] not in "#m"
+
+
+def records_at(path):
+    """The number of the record on each line of a trace that has one."""
+    with open(path, encoding="utf-8", errors="surrogateescape", newline="\n") as file:
+        lines = [number for number, line in enumerate(file, 1) if number > 1 and is_record(line)]
+    return {line: record for record, line in enumerate(lines, 1)}
 
 
 class Trace:
@@ -66,7 +77,7 @@ class Trace:
             for number, line in enumerate(file, 1):
                 if number == 1:
                     self.top = 3 if line.rstrip("\n").endswith("sv48") else 2
-                elif line.strip() and line[0] not in "#m":
+                elif is_record(line):
                     self.add(number, line.rstrip("\n"), open_remotes, open_flushes)
         for begun in [*open_remotes.values(), *open_flushes.values()]:
             begun(None)
@@ -190,24 +201,26 @@ def is_under(space, page):
     return space is not None and (page.is_global or space[1] == page.asid)
 
 
-def finding_of(text, parts):
+def finding_of(text, parts, record_at):
     first, kernel, kind, hart, base, size, asid, root, since = parts
     level = (int(size, 16).bit_length() - 13) // 9
     page = Page(int(base, 16), level, bool(kernel), *((0, 0) if kernel else (int(asid, 16), int(root, 16))))
-    return Finding(page, int(hart), int(since), int(first), kind, text)
+    return Finding(page, int(hart), record_at[int(since)], record_at[int(first)], kind, text)
 
 
 def findings_of(program, path):
     """The findings in the order of their first verdicts, what `watch` says last, and its status."""
-    found, last = {}, ""
-    watch = subprocess.Popen([program, "watch", path], stdout=subprocess.PIPE, encoding="utf-8", errors="surrogateescape")
+    found, last, record_at = {}, "", records_at(path)
+    watch = subprocess.Popen([program, "watch", "--all", path], stdout=subprocess.PIPE, encoding="utf-8", errors="surrogateescape")
     for line in watch.stdout:
-        parts = VERDICT.fullmatch(line.rstrip("\n"))
+        parts = VERDICT.fullmatch(line.rstrip("\n").removeprefix(f"{path}:"))
         if not parts:
             last = line
             continue
-        new = finding_of(line.rstrip("\n"), parts.groups())
+        new = finding_of(line.rstrip("\n"), parts.groups(), record_at)
         found.setdefault((new.since, new.hart, new.page), new).given.append((new.first, new.kind))
+    for place, finding in enumerate(found.values()):
+        finding.place = place
     return list(found.values()), last, watch.wait()
 
 
@@ -240,7 +253,7 @@ def told(path, trace, key, findings):
         if note is not None:
             yield f"stale by {note}: {count:,}"
     one = min(findings, key=lambda f: (REACHES.index(f.reach), f.first))
-    verdict = one.text.split(" ", 1)[1].split(", stale since")[0]
+    verdict = one.text.removeprefix(f"{path}:{trace.lines[one.first]}: ").split(", stale since")[0]
     yield f"{path}:{trace.lines[one.since]}: stale from here on; {path}:{trace.lines[one.first]}: {verdict}"
 
 

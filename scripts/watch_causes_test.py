@@ -2,12 +2,15 @@
 """What watch_causes.py and watch_explain.py say of traces that were worked out by hand: watch_causes_test.py PROGRAM, which stands for ./svsim.
 
 Causes: the small kernel of examples/watch/kernel, right and with each of its mistakes (docs/C.md has them), and traces of a few records, one
-for each reason and each reach. Each verdict of `watch` has to be in one finding. Stories: one for each reason why a fence drops nothing.
+for each reason and each reach. Each verdict of `watch` has to be in one finding. Reports: of these and of all traces of examples/ and of the
+lists of cases, `watch` prints what the causes and the lines of `watch --all` give. Stories: one for each reason why a fence drops nothing.
 The last line is `N passed, M failed`.
 """
-import os, sys, tempfile
+import os, subprocess, sys, tempfile
+from collections import Counter
+from same_watch import traces
 from watch_explain import story_of
-from watch_causes import NO_FENCE, NO_FLUSH, NOT_DONE, NOT_THIS_HART, OTHER_ASID, OTHER_PAGE, TOP, causes_of
+from watch_causes import KINDS, NO_FENCE, NO_FLUSH, NOT_DONE, NOT_THIS_HART, OTHER_ASID, OTHER_PAGE, TOP, causes_of
 from trace_lines import access, bare, claim, fence, given_back, given_out, header, kernel_leaf, leaf, line_of, pointer, remote_fence, satp, store
 
 # What the mistake of the kernel (scenes.c, kernel.c) leaves undone.
@@ -114,6 +117,32 @@ def is_whole(causes, last):
     return f", {told} verdict" in last or (told == 0 and ", no verdict" in last)
 
 
+def report(program, path):
+    """What `watch` has to print of a trace by causes, and what it prints."""
+    causes, last, _, trace = causes_of(program, path)
+    blocks, totals = [], []
+    for number, ((kernel, kind, reason), findings) in enumerate(sorted(causes, key=lambda item: item[1][0].place), 1):
+        first, verdicts = findings[0], sum((f.verdicts for f in findings), Counter())
+        text = f"{'kernel' if kernel else 'user'} pages, first {kind}: {reason}"
+        blocks += [first.text, f"  cause {number}: {text}"]
+        count = f"{len(findings)} finding" + ("" if len(findings) == 1 else "s")
+        kinds = ", ".join(f"{each} {verdicts[each]}" for each in KINDS if verdicts[each])
+        totals.append(((kernel, not verdicts["reuse"], -len(findings)), f"{path}:{trace.lines[first.first]}: cause {number}: {text}; {count}: {kinds}"))
+    wanted = [*blocks, *(text for _, text in sorted(totals, key=lambda total: total[0]))]
+    printed = subprocess.run([program, "watch", path], capture_output=True, encoding="utf-8", errors="surrogateescape").stdout
+    return "".join(f"{line}\n" for line in wanted) + last, printed
+
+
+def reports(program):
+    rows = ["".join(f"{line}\n" for line in [*unmapped(*word), *behind]) for _, behind, _, *word in ROWS]
+    for text in [*rows, *traces()]:
+        with tempfile.NamedTemporaryFile("w", suffix=".trace", encoding="utf-8", newline="") as file:
+            file.write(text)
+            file.flush()
+            wanted, printed = report(program, file.name)
+        yield f"report of {text[:200]!r}", wanted == printed, printed
+
+
 def results(program):
     for name, wanted in KERNEL.items():
         causes, last, _, _ = causes_of(program, f"{TOP}/examples/cases/watch/kernel-{name}.trace")
@@ -131,7 +160,7 @@ def results(program):
 
 def main(program):
     passed = failed = 0
-    for title, is_right, got in results(program):
+    for title, is_right, got in [*results(program), *reports(program)]:
         passed, failed = passed + is_right, failed + (not is_right)
         if not is_right:
             print(f"FAILED {title}: {got}")

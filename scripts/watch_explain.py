@@ -160,7 +160,7 @@ def main(words):
     if not finding:
         sys.exit(f"watch_explain.py: {path}:{line}: no such verdict")
     try:
-        print(f"{path}:{line}: {finding.text.split(' ', 2)[2].split(', stale since')[0]}", *lines, sep="\n", flush=True)
+        print(f"{path}:{line}: {finding.text.removeprefix(f'{path}:').split(' ', 2)[2].split(', stale since')[0]}", *lines, sep="\n", flush=True)
     except BrokenPipeError:
         os.dup2(os.open(os.devnull, os.O_WRONLY), sys.stdout.fileno())
 

@@ -2,9 +2,9 @@
 """Random traces: the lines that a program prints, beside those that the definitions give.
 
 watch_random.py FIRST-LAST PROGRAM [WORD ...]   the seeds of the traces; each trace is a file, the last word of the command
-watch_random.py --list N                        prints N short traces with what `svsim watch` has to print of them, as a list of cases
+watch_random.py --list N                        prints N short traces with what `svsim watch --all` has to print of them, as a list of cases
 
-So `scripts/watch_random.py 1-1000 ./svsim watch`. A trace whose lines, last line or status are not as they should be is kept in a
+So `scripts/watch_random.py 1-1000 ./svsim watch --all`. A trace whose lines, last line or status are not as they should be is kept in a
 file. The last line is `N traces, N records, N verdicts; N differ`, the status 1 if some do.
 """
 import os
@@ -17,7 +17,7 @@ from collections import Counter
 
 from watch_definitions import made, read, shown, Trace
 
-LINE = re.compile(r"(\d+ \S+ hart \d+) may hold page (\S+ -> \S+ \S{5} asid) (\S+ root \S+), (stale since .*)")
+LINE = re.compile(r"[^:]*:(\d+): (\S+ hart \d+) may hold page (\S+ -> \S+ \S{5} asid) (\S+ root \S+), (stale since .*)")
 VERDICTS = [owner + verdict for owner in ("", "kernel-") for verdict in ("free", "reuse", "claim", "use")]
 
 
@@ -31,14 +31,14 @@ def noted(seed):
     return lines, notes
 
 
-def why(trace, record):
+def why(trace, record, line_at):
     """What a line says that the kernel did."""
     op, hart = record[:2]
     if op in ("free", "reuse"):
         return f"frames {record[2]:x}+{record[3]:x} given {'back' if op == 'free' else 'out'}"
     if op == "use":
         return f"hart {hart} uses {record[2]:x}"
-    return f"claimed clean since {trace.claims[record[2]][2]}" if op == "claim_end" and record[2] in trace.claims else ""
+    return f"claimed clean since line {line_at[trace.claims[record[2]][2]]}" if op == "claim_end" and record[2] in trace.claims else ""
 
 
 def stale_since(trace, hart, x, number):
@@ -48,19 +48,20 @@ def stale_since(trace, hart, x, number):
 
 
 def wanted(lines, notes):
-    """For each verdict, as the definitions show it, what may stand after its page: translations that differ only in what is not shown
-    share a line, and it says since when one of them is stale."""
+    """For each verdict, as the definitions show it behind its line of the file, what may stand after its page: translations that differ
+    only in what is not shown share a line, and it says since when one of them is stale."""
     def by(number):
         return f" by {notes[number]}" if number in notes else ""
 
     _, _, harts, scheme = lines[0].split()
     trace, due = Trace(int(harts), {"sv39": 3, "sv48": 4}[scheme]), {}
-    for number, line in enumerate(lines[1:], 1):
-        record = read(line)
-        what = why(trace, record) + by(number)
+    line_at = [1, *(place for place, line in enumerate(lines[1:], 2) if line[0] != "#")]  # of each record; the header's is 1
+    for number, place in enumerate(line_at[1:], 1):
+        record = read(lines[place - 1])
+        what = why(trace, record, line_at) + by(number)
         for verdict, hart, x in trace.record(record):
             since = stale_since(trace, hart, x, number - 1)
-            due.setdefault(f"{number} {shown(verdict, hart, x)}", set()).add(f"stale since {since}{by(since)}; {what}")
+            due.setdefault(f"{place} {shown(verdict, hart, x)}", set()).add(f"stale since line {line_at[since]}{by(since)}; {what}")
     return due
 
 
@@ -75,12 +76,12 @@ def last_line(records, due):
     return f"{counted(records, 'record')}, {counted(len(due), 'verdict')}: " + ", ".join(f"{v} {counts[v]}" for v in VERDICTS if counts[v])
 
 
-def printed(due):
-    """The lines that a program prints, in the order of their records; of each verdict one text is known."""
+def printed(due, name):
+    """The lines that a program prints of a file, in the order of their records; of each verdict one text is known."""
     for text, rest in sorted(due.items(), key=lambda item: int(item[0].split()[0])):
         (since,) = rest
-        head, page = re.fullmatch(r"(\d+ \S+ hart \d+) (.*)", text).groups()
-        yield f"{head} may hold page {page}{' root any' if page.endswith(' any') else ''}, {since}"
+        line, head, page = re.fullmatch(r"(\d+) (\S+ hart \d+) (.*)", text).groups()
+        yield f"{name}:{line}: {head} may hold page {page}{' root any' if page.endswith(' any') else ''}, {since}"
 
 
 def as_shown(line):
@@ -88,8 +89,8 @@ def as_shown(line):
     parts = LINE.fullmatch(line)
     if not parts:
         return line, ""
-    head, page, scope, rest = parts.groups()
-    return f"{head} {page} {'any' if scope == 'any root any' else scope}", rest
+    number, head, page, scope, rest = parts.groups()
+    return f"{number} {head} {page} {'any' if scope == 'any root any' else scope}", rest
 
 
 def difference(due, records, program):
@@ -121,8 +122,8 @@ def listed(count):
         if len(lines) > 75 or len(set(numbers)) < len(numbers) or any(len(rest) > 1 for rest in due.values()) or (not due and quiet == 15):
             continue
         count, quiet = count - 1, quiet + (not due)
-        yield from (f"=== {seed}", *lines, f"--- svsim watch FILE: {int(bool(due))}")
-        yield from printed(due)
+        yield from (f"=== {seed}", *lines, f"--- svsim watch --all FILE: {int(bool(due))}")
+        yield from printed(due, "FILE")
         yield last_line(len(lines) - 1, due)
 
 

@@ -195,14 +195,14 @@ def listed():
             lines = list(of(n))
             due = wanted(lines, {})
             assert len(due) == len({text.split()[0] for text in due})
-            yield from (f"=== {n}: {of.__doc__}", *lines, f"--- svsim watch FILE: {int(bool(due))}", *printed(due))
+            yield from (f"=== {n}: {of.__doc__}", *lines, f"--- svsim watch --all FILE: {int(bool(due))}", *printed(due, "FILE"))
             yield last_line(len(lines) - 1, due)
 
 
-def counted(lines):
-    """Each line, which is printed once, and the last."""
+def counted(lines, name):
+    """Each line, which is printed once, and the last; behind the header a comment stands."""
     due = wanted(lines, {})
-    return [*(f"1 {text}" for text in printed(due)), f"1 {last_line(len(lines) - 1, due)}"]
+    return [*(f"1 {text}" for text in printed(due, name)), f"1 {last_line(len(lines) - 2, due)}"]
 
 
 def main():
@@ -214,10 +214,11 @@ def main():
     write("watch-sizes.txt", [f"{head} `scripts/watch_sizes.py`", "computed them, over sets.\n", *listed()])
     for of in (harts, harts_back):
         for n in (7, 8):
-            lines = list(of(n))
-            write(f"{of.__name__.replace('_', '-')}-{n}.trace", [lines[0], f"# {of.__doc__}", *lines[1:]])
-            write(f"{of.__name__.replace('_', '-')}-{n}.counts", counted(lines))
-            write(f"{of.__name__.replace('_', '-')}-{n}.status", ["1"])
+            first, *rest = of(n)
+            lines, name = [first, f"# {of.__doc__}", *rest], f"{of.__name__.replace('_', '-')}-{n}"
+            write(f"{name}.trace", lines)
+            write(f"{name}.counts", counted(lines, f"{name}.trace"))
+            write(f"{name}.status", ["1"])
 
 
 if __name__ == "__main__":

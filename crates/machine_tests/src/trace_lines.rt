@@ -51,7 +51,7 @@ fn verdicts_are_printed(rt: HostRuntime) {
         count: 1,
     };
     let warning = Warning {
-        number: 18,
+        line: 18,
         hart: 11,
         root: 0x80000,
         entry,
@@ -63,9 +63,9 @@ fn verdicts_are_printed(rt: HostRuntime) {
         ..VerdictCounts::default()
     };
     let mut text = Vec::new(rt.alloc());
-    push_warning(&mut text, &warning, b"unmap", b"").expect(&rt, "room");
+    push_warning(&mut text, b"t", &warning, b"unmap", b"").expect(&rt, "room");
     push_summary(&mut text, 18, &user, &VerdictCounts::default()).expect(&rt, "room");
-    let wanted = b"18 free hart 11 may hold page 1000+1000 -> 100 r---- asid a root 80000, \
-        stale since 6 by unmap; frames 100+1 given back\n18 records, 1 verdict: free 1\n";
+    let wanted = b"t:18: free hart 11 may hold page 1000+1000 -> 100 r---- asid a root 80000, \
+        stale since line 6 by unmap; frames 100+1 given back\n18 records, 1 verdict: free 1\n";
     assert!(rt; text.as_slice() == wanted.as_slice());
 }

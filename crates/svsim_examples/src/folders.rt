@@ -104,7 +104,16 @@ fn is_answered<T: Threads + Wait + Sync>(
     Ok(status.is_some_and(|status| outcome.is(status, out.as_str(), err.as_str())))
 }
 
-/// Whether the folder's command on its file prints words as often as `NAME.counts` has it, with the
+/// The command whose lines are counted.
+fn counted_command(folder: &str) -> &str {
+    if folder == "watch" {
+        "watch --all"
+    } else {
+        folder
+    }
+}
+
+/// Whether a command on the folder's file prints words as often as `NAME.counts` has it, with the
 /// status of `NAME.status`.
 fn is_counted<T: Threads + Wait + Sync>(
     rt: &HostRuntime,
@@ -112,7 +121,7 @@ fn is_counted<T: Threads + Wait + Sync>(
     folder: &str,
     name: &str,
 ) -> io::Result<bool> {
-    let outcome = outcome_of(rt, threads, folder, name, folder)?;
+    let outcome = outcome_of(rt, threads, folder, name, counted_command(folder))?;
     let counts = text_of(rt, folder, name, "counts")?;
     let Ok(printed) = str::from_utf8(outcome.out.as_slice()) else {
         return Ok(false);
@@ -128,6 +137,7 @@ fn asked<'a>(folder: &'a str, ending: &'a str) -> Option<(&'a str, &'a str)> {
     match ending {
         "toml" | "trace" => Some((folder, "out")),
         "svg" => Some(("draw", ending)),
+        "all" => Some(("watch --all", ending)),
         "check" | "show" | "stale" => Some((ending, ending)),
         _ => None,
     }

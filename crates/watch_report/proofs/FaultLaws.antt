@@ -13,11 +13,13 @@ use Rattle.watch_report.specs.declared.line_fault.LineReason.{LineReason}
 use Rattle.watch_report.specs.declared.line_fault.LineReason.TheVariants.{EmptyStart, NoSpace, NoTrace, OtherLetter, OtherVersion, OtherScheme, OtherMode, Unaligned, WideAsid}
 use Rattle.watch_report.specs.declared.line_form.Field.{Field}
 use Rattle.watch_report.specs.declared.line_form.Field.TheVariants as named
+use Rattle.watch_report.specs.declared.line_form.FieldKind.{FieldKind}
+use Rattle.watch_report.specs.declared.line_form.FieldKind.TheVariants as kinds
 use Rattle.watch_report.specs.declared.line_form.LineForm.{LineForm}
 use Rattle.watch_report.specs.declared.line_form.LineForm.TheVariants as forms
 use Rattle.watch_report.specs.Fields.{◌>>=◌, fields_of, hart_field, hexadecimal_field, number_field, only_if, optional_field}
-use Rattle.watch_report.specs.LineForms.{form_fields, form_of}
-use Rattle.watch_report.specs.LineFaults.{any_machine, fault_at, fault_of, fields_fault, first_of, header_fault, noted_fault, or_wrong, record_fault, unless, word_reason, words_fault}
+use Rattle.watch_report.specs.LineForms.{form_fields, form_of, kind_of}
+use Rattle.watch_report.specs.LineFaults.{any_machine, fault_at, fault_of, fields_fault, first_of, header_fault, kind_reason, name_reason, noted_fault, or_wrong, record_fault, unless, word_reason, words_fault}
 use Rattle.watch_report.specs.Records.{asid_field, claim_begin_in, claim_end_in, fence_in, give_back_in, give_out_in, record_by, remote_begin_in, remote_end_in, satp_in, satp_write_in, small_asid, store_in, use_in}
 use Rattle.watch_report.specs.TraceLines.{LineText, comment, empty, mark_of, before_note, begins_note, hart_count_field, header_in, note_of, record_in, record_of, scheme_field}
 use Rattle.watch_report.specs.TraceText.{has_no_form}
@@ -54,11 +56,28 @@ bad machine [] (word ∷ words) = true
 bad machine (field ∷ fields) [] = true
 bad machine (field ∷ fields) (word ∷ words) = is_some (word_reason machine field word) || bad machine fields words
 
+-- no field may hold an empty word
+empty_wrong : (machine : Header) (field : Field) (kind : FieldKind) → is_some (kind_reason machine field [] kind) ≡ true
+empty_wrong machine field kinds.Name = refl
+empty_wrong machine field kinds.Version = refl
+empty_wrong machine field kinds.HartCount = refl
+empty_wrong machine field kinds.Scheme = refl
+empty_wrong machine field kinds.Hart = refl
+empty_wrong machine field kinds.WordAddress = refl
+empty_wrong machine field kinds.Number = refl
+empty_wrong machine field kinds.Optional = refl
+empty_wrong machine field kinds.Asid = refl
+empty_wrong machine field kinds.Satp = refl
+
 words_bad : (machine : Header) (form : LineForm) (fields : List Field) (before : ℕ) (words : List (List ℕ)) → is_some (words_fault machine form fields before words) ≡ bad machine fields words
 words_bad machine form [] before [] = refl
 words_bad machine form [] before (word ∷ words) = refl
 words_bad machine form (field ∷ fields) before [] = refl
-words_bad machine form (field ∷ fields) before (word ∷ words) =
+words_bad machine form (field ∷ fields) before ([] ∷ []) = sym (ap (λ b. b || bad machine fields []) (empty_wrong machine field (kind_of field)))
+words_bad machine form (field ∷ fields) before ([] ∷ other ∷ words) =
+    some_first _ _ ∙ or_same _ _ _ _ (some_map (word_reason machine field []) _) (words_bad machine form fields (before + 0 + 1) (other ∷ words))
+words_bad machine form (field ∷ fields) before ((byte ∷ rest) ∷ words) =
+    let word : List ℕ = byte ∷ rest in
     some_first _ _ ∙ or_same _ _ _ _ (some_map (word_reason machine field word) _) (words_bad machine form fields (before + length word + 1) words)
 
 -- whether they are not as many as the fields
@@ -282,18 +301,18 @@ fault_law header text =
 
 -- ---- the first line
 
-first_four : {A : Type 0} (p q : Bool) (harts : Option ℕ) (scheme : Option Scheme) (said : ℕ → Scheme → A)
-    → (is_some (unless p NoTrace) || (is_some (unless q OtherVersion) || (is_none harts || (is_some (unless (is_some scheme) OtherScheme) || false))))
+first_four : {A : Type 0} (p q : Bool) (why : LineReason) (harts : Option ℕ) (scheme : Option Scheme) (said : ℕ → Scheme → A)
+    → (is_some (unless p why) || (is_some (unless q OtherVersion) || (is_none harts || (is_some (unless (is_some scheme) OtherScheme) || false))))
     ≡ is_none (harts >>= λ h. scheme >>= λ s. only_if (p && q) (said h s))
-first_four true true None scheme said = refl
-first_four true true (Some h) None said = refl
-first_four true true (Some h) (Some s) said = refl
-first_four true false None scheme said = refl
-first_four true false (Some h) None said = refl
-first_four true false (Some h) (Some s) said = refl
-first_four false q None scheme said = refl
-first_four false q (Some h) None said = refl
-first_four false q (Some h) (Some s) said = refl
+first_four true true why None scheme said = refl
+first_four true true why (Some h) None said = refl
+first_four true true why (Some h) (Some s) said = refl
+first_four true false why None scheme said = refl
+first_four true false why (Some h) None said = refl
+first_four true false why (Some h) (Some s) said = refl
+first_four false q why None scheme said = refl
+first_four false q why (Some h) None said = refl
+first_four false q why (Some h) (Some s) said = refl
 
 harts_bad : (read : Option ℕ) (why : LineReason) (wrong : ℕ → LineReason)
     → is_some (or_wrong read why (λ n. unless (nat_lt 0 n && nat_le n 64) (wrong n))) ≡ is_none (read >>= λ n. only_if (nat_lt 0 n && nat_le n 64) n)
@@ -305,9 +324,9 @@ words_law (a ∷ []) = bad_uneven any_machine (form_fields forms.Header) (a ∷ 
 words_law (a ∷ b ∷ []) = bad_uneven any_machine (form_fields forms.Header) (a ∷ b ∷ []) refl
 words_law (a ∷ b ∷ c ∷ []) = bad_uneven any_machine (form_fields forms.Header) (a ∷ b ∷ c ∷ []) refl
 words_law (a ∷ b ∷ c ∷ d ∷ []) =
-    ap (λ x. is_some (unless (bytes_eq a (codes "watch")) NoTrace) || (is_some (unless (bytes_eq b (codes "1")) OtherVersion) || (x || (is_some (unless (is_some (scheme_field d)) OtherScheme) || false))))
+    ap (λ x. is_some (unless (bytes_eq a (codes "watch")) (name_reason a)) || (is_some (unless (bytes_eq b (codes "1")) OtherVersion) || (x || (is_some (unless (is_some (scheme_field d)) OtherScheme) || false))))
     (harts_bad (number_field 10 c) _ _)
-    ∙ first_four (bytes_eq a (codes "watch")) (bytes_eq b (codes "1")) (hart_count_field c) (scheme_field d) _
+    ∙ first_four (bytes_eq a (codes "watch")) (bytes_eq b (codes "1")) (name_reason a) (hart_count_field c) (scheme_field d) _
 words_law (a ∷ b ∷ c ∷ d ∷ e ∷ words) = bad_uneven any_machine (form_fields forms.Header) (a ∷ b ∷ c ∷ d ∷ e ∷ words) refl
 
 not_empty : (test : Bool) (one : LineFault) (fault : Option LineFault) (b : Bool) → test ≡ false → is_some fault ≡ b → is_some (if test then Some one else fault) ≡ b

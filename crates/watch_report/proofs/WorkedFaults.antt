@@ -39,6 +39,12 @@ header_before_a_space = refl
 pub header_of_windows : faults.header_of_windows
 header_of_windows = refl
 
+pub header_after_a_mark : faults.header_after_a_mark
+header_after_a_mark = refl
+
+pub header_cut_after_a_space : faults.header_cut_after_a_space
+header_cut_after_a_space = refl
+
 pub fewest_harts : faults.fewest_harts
 fewest_harts = refl
 
@@ -53,6 +59,24 @@ space_in_front = refl
 
 pub space_at_the_end : faults.space_at_the_end
 space_at_the_end = refl
+
+pub cut_after_a_space : faults.cut_after_a_space
+cut_after_a_space = refl
+
+pub cut_after_the_letter : faults.cut_after_the_letter
+cut_after_the_letter = refl
+
+pub cut_before_a_note : faults.cut_before_a_note
+cut_before_a_note = refl
+
+pub two_spaces_and_no_more : faults.two_spaces_and_no_more
+two_spaces_and_no_more = refl
+
+pub tab_for_a_space : faults.tab_for_a_space
+tab_for_a_space = refl
+
+pub tab_after_the_letter : faults.tab_after_the_letter
+tab_after_the_letter = refl
 
 pub two_spaces_before_a_note : faults.two_spaces_before_a_note
 two_spaces_before_a_note = refl
@@ -92,6 +116,9 @@ name_of_a_register = refl
 
 pub prefixed : faults.prefixed
 prefixed = refl
+
+pub prefixed_in_upper_case : faults.prefixed_in_upper_case
+prefixed_in_upper_case = refl
 
 pub seventeen_digits : faults.seventeen_digits
 seventeen_digits = refl
@@ -207,9 +234,9 @@ pub text_of_a_mode_in_sv48 : faults.text_of_a_mode_in_sv48
 unfolding digits
 text_of_a_mode_in_sv48 = refl
 
-pub ruleset wrong_headers = (empty_start, scenario, upper_case, other_version, no_harts, too_many_harts, harts_in_a_word, other_scheme, no_scheme, more_than_a_scheme, header_before_a_space, header_of_windows, fewest_harts, most_harts)
+pub ruleset wrong_headers = (empty_start, scenario, upper_case, other_version, no_harts, too_many_harts, harts_in_a_word, other_scheme, no_scheme, more_than_a_scheme, header_before_a_space, header_of_windows, header_after_a_mark, header_cut_after_a_space, fewest_harts, most_harts)
 
-pub ruleset wrong_lines = (two_spaces, space_in_front, space_at_the_end, two_spaces_before_a_note, line_of_windows, unknown_letter, two_letters, mark_with_no_space, no_hart_field, no_value, no_asid, field_too_many, digit_g, dash_for_a_token, name_of_a_register, prefixed, seventeen_digits, hart_in_hexadecimal, hart_too_great, unaligned_word, wide_asid, satp_of_mode_1, satp_of_the_other_scheme, no_space_before_a_note, note_alone, note_after_a_space, hart_before_the_address, address_before_what_is_missing)
+pub ruleset wrong_lines = (two_spaces, space_in_front, space_at_the_end, cut_after_a_space, cut_after_the_letter, cut_before_a_note, two_spaces_and_no_more, tab_for_a_space, tab_after_the_letter, two_spaces_before_a_note, line_of_windows, unknown_letter, two_letters, mark_with_no_space, no_hart_field, no_value, no_asid, field_too_many, digit_g, dash_for_a_token, name_of_a_register, prefixed, prefixed_in_upper_case, seventeen_digits, hart_in_hexadecimal, hart_too_great, unaligned_word, wide_asid, satp_of_mode_1, satp_of_the_other_scheme, no_space_before_a_note, note_alone, note_after_a_space, hart_before_the_address, address_before_what_is_missing)
 
 pub ruleset formed_lines = (letters_in_upper_case, dash, sixteen_digits, last_hart, aligned_word, widest_asid, every_asid, satp_of_the_scheme, satp_of_bare, noted, return_in_a_note, comment_line, mark, empty_line)
 

@@ -1,5 +1,5 @@
 -- Why a line has no form, and where: the first fault from the left.
-use Rattle.std.specs.Prelude.{ℕ, Bool, ◌==◌, ◌&&◌, ◌+◌, ◌-◌, ◌/◌, ◌%◌, ◌^◌, nat_eq, nat_lt, nat_le, max, codes, List, [], ◌∷◌, get_or, length}
+use Rattle.std.specs.Prelude.{ℕ, Bool, ◌==◌, ◌&&◌, ◌||◌, ◌+◌, ◌-◌, ◌/◌, ◌%◌, ◌^◌, nat_eq, nat_lt, nat_le, max, codes, List, [], ◌∷◌, get_or, length}
 use Rattle.std.specs.Prelude.{Option, Some, None, option_map, is_some, if◌then◌else◌}
 use Rattle.std.specs.Char.{digit_value}
 use Rattle.std.specs.List.{before_first, list_all, position_or_len, starts_with}
@@ -9,7 +9,7 @@ use Rattle.pte.specs.declared.scheme.Scheme.TheVariants.{Sv39}
 use Rattle.watch_report.specs.declared.header.Header.{Header}
 use Rattle.watch_report.specs.declared.line_fault.LineFault.{LineFault}
 use Rattle.watch_report.specs.declared.line_fault.LineReason.{LineReason}
-use Rattle.watch_report.specs.declared.line_fault.LineReason.TheVariants.{EmptyStart, NoTrace, OtherVersion, OtherHarts, OtherScheme, CarriageReturn, Space, OtherLetter, Missing, Excess, NotDecimal, NotHexadecimal, NotOptional, Prefixed, TooLong, NoHart, Unaligned, WideAsid, OtherMode, NoSpace}
+use Rattle.watch_report.specs.declared.line_fault.LineReason.TheVariants.{EmptyStart, NoTrace, OtherVersion, OtherHarts, OtherScheme, ByteOrderMark, CarriageReturn, Tab, Space, OtherLetter, Missing, Excess, NotDecimal, NotHexadecimal, NotOptional, Prefixed, TooLong, NoHart, Unaligned, WideAsid, OtherMode, NoSpace}
 use Rattle.watch_report.specs.declared.line_form.Field.{Field}
 use Rattle.watch_report.specs.declared.line_form.FieldKind.{FieldKind}
 use Rattle.watch_report.specs.declared.line_form.FieldKind.TheVariants as kinds
@@ -33,7 +33,7 @@ unless test fault = if test then None else Some fault
 -- why a word is no number: digits alone are too many
 abbrev pub number_reason : ℕ → LineReason → List ℕ → LineReason
 number_reason radix other word =
-    if starts_with nat_eq word (codes "0x") then Prefixed
+    if starts_with nat_eq word (codes "0x") || starts_with nat_eq word (codes "0X") then Prefixed
     else if list_all (λ c. nat_lt (digit_value c) radix) word then TooLong
     else other
 
@@ -55,9 +55,15 @@ optional_reason field word wrong =
     if bytes_eq word (codes "-") then None
     else or_wrong (hexadecimal_field word) (number_reason 16 (NotOptional field) word) wrong
 
+-- why the first word is not `watch`: the bytes of a byte order mark may stand before it
+abbrev pub name_reason : List ℕ → LineReason
+name_reason word =
+    if starts_with nat_eq word (0xEF ∷ 0xBB ∷ 0xBF ∷ []) then ByteOrderMark else NoTrace
+
 -- why a word is none that a field may hold
 abbrev pub kind_reason : Header → Field → List ℕ → FieldKind → Option LineReason
-kind_reason machine field word kinds.Name = unless (bytes_eq word (codes "watch")) NoTrace
+kind_reason machine field word kinds.Name =
+    unless (bytes_eq word (codes "watch")) (name_reason word)
 kind_reason machine field word kinds.Version = unless (bytes_eq word (codes "1")) OtherVersion
 kind_reason machine field word kinds.HartCount =
     decimal_reason field word (λ n. unless (nat_lt 0 n && nat_le n 64) (OtherHarts n))
@@ -80,12 +86,17 @@ word_reason machine field word = kind_reason machine field word (kind_of field)
 abbrev pub fault_at : ℕ → LineReason → LineFault
 fault_at column reason = record { column = column; reason = reason }
 
+-- where the first tab of a word stands, from 0 on, or its length
+abbrev pub first_tab : List ℕ → ℕ
+first_tab word = position_or_len (λ byte. byte == 9) word
+
 -- the fault of a wrong word, before which so many bytes stand: a space too many makes an empty word,
--- and what ends in a carriage return is wrong there
+-- and what ends in a carriage return or has a tab in it is wrong there
 abbrev pub wrong_word : ℕ → List ℕ → LineReason → LineFault
 wrong_word before word reason =
     if length word == 0 then fault_at (max before 1) Space
     else if get_or word (length word - 1) 0 == 13 then fault_at (before + length word) CarriageReturn
+    else if nat_lt (first_tab word) (length word) then fault_at (before + first_tab word + 1) Tab
     else fault_at (before + 1) reason
 
 abbrev pub word_fault : Header → Field → ℕ → List ℕ → Option LineFault
@@ -104,13 +115,18 @@ abbrev pub end_fault : LineForm → List Field → ℕ → Option LineFault
 end_fault form [] before = None
 end_fault form (field ∷ fields) before = Some (fault_at before (Missing form field))
 
+-- the line ends at a space, behind which a word should stand
+abbrev pub ends_at_space : List ℕ → List (List ℕ) → Bool
+ends_at_space word words = (length word == 0) && (length words == 0)
+
 -- the first fault of words, before which so many bytes stand: a wrong one, one too few, or one too
 -- many
 abbrev pub words_fault : Header → LineForm → List Field → ℕ → List (List ℕ) → Option LineFault
 words_fault machine form fields before [] = end_fault form fields before
 words_fault machine form [] before (word ∷ words) = Some (wrong_word before word (Excess form))
 words_fault machine form (field ∷ fields) before (word ∷ words) =
-    first_of (word_fault machine field before word)
+    if ends_at_space word words then end_fault form (field ∷ fields) (before + 1)
+    else first_of (word_fault machine field before word)
     (words_fault machine form fields (before + length word + 1) words)
 
 -- ---- the first line

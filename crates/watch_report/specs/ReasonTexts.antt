@@ -4,7 +4,7 @@ use Rattle.std.specs.Fmt.{decimal}
 use Rattle.pte.specs.declared.scheme.Scheme.TheVariants.{Sv39, Sv48}
 use Rattle.watch_report.specs.declared.line_fault.LineFault.{LineFault}
 use Rattle.watch_report.specs.declared.line_fault.LineReason.{LineReason}
-use Rattle.watch_report.specs.declared.line_fault.LineReason.TheVariants.{EmptyStart, NoTrace, OtherVersion, OtherHarts, OtherScheme, CarriageReturn, Space, OtherLetter, Missing, Excess, NotDecimal, NotHexadecimal, NotOptional, Prefixed, TooLong, NoHart, Unaligned, WideAsid, OtherMode, NoSpace}
+use Rattle.watch_report.specs.declared.line_fault.LineReason.TheVariants.{EmptyStart, NoTrace, OtherVersion, OtherHarts, OtherScheme, ByteOrderMark, CarriageReturn, Tab, Space, OtherLetter, Missing, Excess, NotDecimal, NotHexadecimal, NotOptional, Prefixed, TooLong, NoHart, Unaligned, WideAsid, OtherMode, NoSpace}
 use Rattle.watch_report.specs.LineForms.{field_name, form_text}
 use Rattle.watch_report.specs.Warnings.{hexadecimal}
 
@@ -16,9 +16,13 @@ reason_text NoTrace =
 reason_text OtherVersion = codes "another version: only 1 is known"
 reason_text (OtherHarts harts) = codes "HARTS is " ++ decimal harts ++ codes ", not 1 to 64"
 reason_text OtherScheme = codes "SCHEME is neither sv39 nor sv48"
+reason_text ByteOrderMark =
+    codes "a byte order mark: a trace begins with watch 1 HARTS SCHEME"
 reason_text CarriageReturn = codes "a carriage return: lines end in a line feed alone"
+reason_text Tab = codes "a tab: one space stands between two fields"
 reason_text Space = codes "a space too many: one stands between two fields, and none at the ends"
-reason_text OtherLetter = codes "no record begins so: its letter is one of a c d e f r s u w z"
+reason_text OtherLetter =
+    codes "no line begins so: a record has one of the letters a c d e f r s u w z, a mark is m TEXT"
 reason_text (Missing form field) = field_name field ++ codes " is missing: " ++ form_text form
 reason_text (Excess form) = codes "a field too many: " ++ form_text form
 reason_text (NotDecimal field) = field_name field ++ codes " is no decimal number"
@@ -26,7 +30,7 @@ reason_text (NotHexadecimal field) = field_name field ++ codes " is no hexadecim
 reason_text (NotOptional field) =
     field_name field ++ codes " is neither a hexadecimal number nor -"
 reason_text Prefixed = codes "a number has no 0x in front"
-reason_text TooLong = codes "too large: a number has 1 to 16 digits"
+reason_text TooLong = codes "too long: a number has 1 to 16 digits"
 reason_text (NoHart hart last) =
     codes "no hart " ++ decimal hart ++ codes ": harts are 0 to " ++ decimal last
 reason_text (Unaligned address) =

@@ -3,7 +3,7 @@ use Rattle.std.specs.Prelude.{◌≡◌, ℕ, codes, List, [], ◌∷◌, ◌++�
 use Rattle.pte.specs.declared.scheme.Scheme.TheVariants.{Sv39, Sv48}
 use Rattle.watch_report.specs.declared.line_fault.LineFault.{LineFault}
 use Rattle.watch_report.specs.declared.line_fault.LineReason.{LineReason}
-use Rattle.watch_report.specs.declared.line_fault.LineReason.TheVariants.{EmptyStart, NoTrace, OtherVersion, OtherHarts, OtherScheme, CarriageReturn, Space, OtherLetter, Missing, Excess, NotDecimal, NotHexadecimal, NotOptional, Prefixed, TooLong, NoHart, Unaligned, WideAsid, OtherMode, NoSpace}
+use Rattle.watch_report.specs.declared.line_fault.LineReason.TheVariants.{EmptyStart, NoTrace, OtherVersion, OtherHarts, OtherScheme, ByteOrderMark, CarriageReturn, Tab, Space, OtherLetter, Missing, Excess, NotDecimal, NotHexadecimal, NotOptional, Prefixed, TooLong, NoHart, Unaligned, WideAsid, OtherMode, NoSpace}
 use Rattle.watch_report.specs.declared.line_form.Field.TheVariants as fields
 use Rattle.watch_report.specs.declared.line_form.LineForm.TheVariants as forms
 use Rattle.watch_report.specs.LineFaults.{fault_at, fault_of, header_fault}
@@ -69,6 +69,13 @@ header_before_a_space = BeginsWrong (codes "watch 1 2 sv39 ") 15 Space
 abbrev pub header_of_windows : Type 0
 header_of_windows = BeginsWrong (codes "watch 1 2 sv39" ++ carriage_return) 15 CarriageReturn
 
+abbrev pub header_after_a_mark : Type 0
+header_after_a_mark =
+    BeginsWrong (0xEF ∷ 0xBB ∷ 0xBF ∷ codes "watch 1 2 sv39") 1 ByteOrderMark
+
+abbrev pub header_cut_after_a_space : Type 0
+header_cut_after_a_space = BeginsWrong (codes "watch 1 2 ") 11 (Missing forms.Header fields.Scheme)
+
 abbrev pub fewest_harts : Type 0
 fewest_harts = IsHeader (codes "watch 1 1 sv39")
 
@@ -85,6 +92,24 @@ space_in_front = IsWrong (codes " u 0 1000") 1 Space
 
 abbrev pub space_at_the_end : Type 0
 space_at_the_end = IsWrong (codes "u 0 1000 ") 9 Space
+
+abbrev pub cut_after_a_space : Type 0
+cut_after_a_space = IsWrong (codes "w 0 80000000 ") 14 (Missing forms.Store fields.Value)
+
+abbrev pub cut_after_the_letter : Type 0
+cut_after_the_letter = IsWrong (codes "w ") 3 (Missing forms.Store fields.Hart)
+
+abbrev pub cut_before_a_note : Type 0
+cut_before_a_note = IsWrong (codes "u 0  @note") 5 (Missing forms.Use fields.VirtualAddress)
+
+abbrev pub two_spaces_and_no_more : Type 0
+two_spaces_and_no_more = IsWrong (codes "u 0  ") 4 Space
+
+abbrev pub tab_for_a_space : Type 0
+tab_for_a_space = IsWrong (codes "u 0" ++ 9 ∷ codes "1000") 4 Tab
+
+abbrev pub tab_after_the_letter : Type 0
+tab_after_the_letter = IsWrong (117 ∷ 9 ∷ codes "0 1000") 2 Tab
 
 abbrev pub two_spaces_before_a_note : Type 0
 two_spaces_before_a_note = IsWrong (codes "u 0 1000  @note") 9 Space
@@ -124,6 +149,9 @@ name_of_a_register = IsWrong (codes "f 0 x0 -") 5 (NotOptional fields.Rs1)
 
 abbrev pub prefixed : Type 0
 prefixed = IsWrong (codes "u 0 0x1000") 5 Prefixed
+
+abbrev pub prefixed_in_upper_case : Type 0
+prefixed_in_upper_case = IsWrong (codes "u 0 0X1000") 5 Prefixed
 
 abbrev pub seventeen_digits : Type 0
 seventeen_digits = IsWrong (codes "u 0 00000000000001000") 5 TooLong

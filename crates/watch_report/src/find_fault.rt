@@ -56,6 +56,9 @@ fn words_fault(
     let Some((field, others)) = fields.split_first() else {
         return Some(wrong_word(before, word, LineReason::Excess(form)));
     };
+    if word.is_empty() && rest.is_none() {
+        return end_fault(form, fields, before + 1);
+    }
     if let Some(fault) = word_fault(machine, *field, before, word) {
         return Some(fault);
     }

@@ -27,8 +27,12 @@ pub enum LineReason {
     OtherHarts(u64),
     /// The scheme is neither `sv39` nor `sv48`.
     OtherScheme,
+    /// A byte order mark stands before `watch`.
+    ByteOrderMark,
     /// A word ends in a carriage return.
     CarriageReturn,
+    /// A word has a tab in it.
+    Tab,
     /// A space stands where no field ends, or none begins.
     Space,
     /// No record has this letter.
@@ -43,7 +47,7 @@ pub enum LineReason {
     NotHexadecimal(Field),
     /// Neither a hexadecimal number nor `-`.
     NotOptional(Field),
-    /// A number with `0x` in front.
+    /// A number with `0x` or `0X` in front.
     Prefixed,
     /// A number of more than 16 digits.
     TooLong,
@@ -58,6 +62,17 @@ pub enum LineReason {
     /// A note without a space before it.
     NoSpace,
 }
+
+const EMPTY_START: &str = "the first line is empty: a trace begins with watch 1 HARTS SCHEME";
+const NO_TRACE: &str =
+    "no trace, which begins with watch 1 HARTS SCHEME (a scenario is for svsim run)";
+const BYTE_ORDER_MARK: &str = "a byte order mark: a trace begins with watch 1 HARTS SCHEME";
+const CARRIAGE_RETURN: &str = "a carriage return: lines end in a line feed alone";
+const TAB: &str = "a tab: one space stands between two fields";
+const SPACE: &str = "a space too many: one stands between two fields, and none at the ends";
+const OTHER_LETTER: &str =
+    "no line begins so: a record has one of the letters a c d e f r s u w z, a mark is m TEXT";
+const TOO_LONG: &str = "too long: a number has 1 to 16 digits";
 
 /// A number as lines write it.
 #[derive(Clone, Copy)]
@@ -83,24 +98,16 @@ impl fmt::Display for LineReason {
 
     fn fmt<W: fmt::Write>(&self, f: &mut fmt::Formatter<W>) -> fmt::Result {
         match self {
-            LineReason::EmptyStart => {
-                f.write_str("the first line is empty: a trace begins with watch 1 HARTS SCHEME")
-            }
-            LineReason::NoTrace => f.write_str(
-                "no trace, which begins with watch 1 HARTS SCHEME (a scenario is for svsim run)",
-            ),
+            LineReason::EmptyStart => f.write_str(EMPTY_START),
+            LineReason::NoTrace => f.write_str(NO_TRACE),
             LineReason::OtherVersion => f.write_str("another version: only 1 is known"),
             LineReason::OtherHarts(harts) => write!(f, "HARTS is {harts}, not 1 to 64"),
             LineReason::OtherScheme => f.write_str("SCHEME is neither sv39 nor sv48"),
-            LineReason::CarriageReturn => {
-                f.write_str("a carriage return: lines end in a line feed alone")
-            }
-            LineReason::Space => f.write_str(
-                "a space too many: one stands between two fields, and none at the ends",
-            ),
-            LineReason::OtherLetter => {
-                f.write_str("no record begins so: its letter is one of a c d e f r s u w z")
-            }
+            LineReason::ByteOrderMark => f.write_str(BYTE_ORDER_MARK),
+            LineReason::CarriageReturn => f.write_str(CARRIAGE_RETURN),
+            LineReason::Tab => f.write_str(TAB),
+            LineReason::Space => f.write_str(SPACE),
+            LineReason::OtherLetter => f.write_str(OTHER_LETTER),
             LineReason::Missing { form, field } => write!(f, "{field} is missing: {form}"),
             LineReason::Excess(form) => write!(f, "a field too many: {form}"),
             LineReason::NotDecimal(field) => write!(f, "{field} is no decimal number"),
@@ -109,7 +116,7 @@ impl fmt::Display for LineReason {
                 write!(f, "{field} is neither a hexadecimal number nor -")
             }
             LineReason::Prefixed => f.write_str("a number has no 0x in front"),
-            LineReason::TooLong => f.write_str("too large: a number has 1 to 16 digits"),
+            LineReason::TooLong => f.write_str(TOO_LONG),
             LineReason::NoHart { hart, last } => {
                 write!(f, "no hart {hart}: harts are 0 to {last}")
             }

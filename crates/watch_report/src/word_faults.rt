@@ -2,9 +2,10 @@
 ghost use Rattle.std.specs.Prelude.{◌≡◌, ◌+◌, ◌<◌, ◌≤◌, ◌^◌, None, nat_lt, length};
 ghost use Rattle.std.specs.Char.{digit_value};
 ghost use Rattle.std.specs.List.{list_all};
-ghost use Rattle.watch_report.specs.LineFaults.{fault_at, hexadecimal_reason, kind_reason, number_reason, optional_reason, unless, word_fault, word_reason, wrong_word};
+ghost use Rattle.watch_report.specs.LineFaults.{fault_at, first_tab, hexadecimal_reason, kind_reason, name_reason, number_reason, optional_reason, unless, word_fault, word_reason, wrong_word};
 ghost use Rattle.watch_report.specs.declared.line_form.FieldKind.TheVariants.{Asid, Hart, HartCount, Number, Optional, Satp, WordAddress};
 
+use crate::bytes::first_of;
 use crate::header::{Header, scheme};
 use crate::line_fault::{LineFault, LineReason};
 use crate::line_form::{Field, FieldKind, kind_of};
@@ -34,12 +35,23 @@ fn number_reason(radix: u64, other: LineReason, word: &[u8]) -> LineReason
     requires { radix ≤ 16 }
     ensures { result ≡ number_reason radix other word.now }
 {
-    if word.starts_with(b"0x".as_slice()) {
+    if word.starts_with(b"0x".as_slice()) || word.starts_with(b"0X".as_slice()) {
         LineReason::Prefixed
     } else if are_digits(radix, word) {
         LineReason::TooLong
     } else {
         other
+    }
+}
+
+/// Why the first word is not `watch`.
+fn name_reason(word: &[u8]) -> LineReason
+    ensures { result ≡ name_reason word.now }
+{
+    if word.starts_with(b"\xEF\xBB\xBF".as_slice()) {
+        LineReason::ByteOrderMark
+    } else {
+        LineReason::NoTrace
     }
 }
 
@@ -153,7 +165,7 @@ fn word_reason(machine: Header, field: Field, word: &[u8]) -> Option<LineReason>
     ensures { result ≡ word_reason machine field word.now }
 {
     match kind_of(field) {
-        FieldKind::Name => unless(word == b"watch".as_slice(), LineReason::NoTrace),
+        FieldKind::Name => unless(word == b"watch".as_slice(), name_reason(word)),
         FieldKind::Version => unless(word == b"1".as_slice(), LineReason::OtherVersion),
         FieldKind::HartCount => harts_reason(machine, field, word),
         FieldKind::Scheme => unless(scheme(word).is_some(), LineReason::OtherScheme),
@@ -172,6 +184,14 @@ fn unless(test: bool, reason: LineReason) -> Option<LineReason>
     if test { None } else { Some(reason) }
 }
 
+/// Where the first tab of a word stands, or its length.
+fn first_tab(word: &[u8]) -> usize
+    ensures place { result ≡ first_tab word.now }
+    ensures within { result ≤ length word.now }
+{
+    first_of(b'\t', word)
+}
+
 /// The fault of a wrong word, before which so many bytes stand.
 pub fn wrong_word(before: usize, word: &[u8], reason: LineReason) -> LineFault
     requires { before + length word.now < 2 ^ 63 }
@@ -181,6 +201,8 @@ pub fn wrong_word(before: usize, word: &[u8], reason: LineReason) -> LineFault
         fault_at(before.max(1), LineReason::Space)
     } else if word[word.len() - 1] == b'\r' {
         fault_at(before + word.len(), LineReason::CarriageReturn)
+    } else if first_tab(word) < word.len() {
+        fault_at(before + first_tab(word) + 1, LineReason::Tab)
     } else {
         fault_at(before + 1, reason)
     }

@@ -18,6 +18,8 @@ pub fn worked_header_faults()
     ensures more_than_a_scheme { faults.more_than_a_scheme }
     ensures header_before_a_space { faults.header_before_a_space }
     ensures header_of_windows { faults.header_of_windows }
+    ensures header_after_a_mark { faults.header_after_a_mark }
+    ensures header_cut_after_a_space { faults.header_cut_after_a_space }
     ensures fewest_harts { faults.fewest_harts }
     ensures most_harts { faults.most_harts }
 {}
@@ -28,6 +30,12 @@ pub fn worked_line_faults()
     ensures two_spaces { faults.two_spaces }
     ensures space_in_front { faults.space_in_front }
     ensures space_at_the_end { faults.space_at_the_end }
+    ensures cut_after_a_space { faults.cut_after_a_space }
+    ensures cut_after_the_letter { faults.cut_after_the_letter }
+    ensures cut_before_a_note { faults.cut_before_a_note }
+    ensures two_spaces_and_no_more { faults.two_spaces_and_no_more }
+    ensures tab_for_a_space { faults.tab_for_a_space }
+    ensures tab_after_the_letter { faults.tab_after_the_letter }
     ensures two_spaces_before_a_note { faults.two_spaces_before_a_note }
     ensures line_of_windows { faults.line_of_windows }
     ensures unknown_letter { faults.unknown_letter }
@@ -41,6 +49,7 @@ pub fn worked_line_faults()
     ensures dash_for_a_token { faults.dash_for_a_token }
     ensures name_of_a_register { faults.name_of_a_register }
     ensures prefixed { faults.prefixed }
+    ensures prefixed_in_upper_case { faults.prefixed_in_upper_case }
     ensures seventeen_digits { faults.seventeen_digits }
     ensures hart_in_hexadecimal { faults.hart_in_hexadecimal }
     ensures hart_too_great { faults.hart_too_great }
