@@ -27,8 +27,8 @@ answers_on() {
     echo "$store/$({ printf '%s\n' "$now" && cat "$1"; } | sha256sum | cut -c1-64)"
 }
 
-# Takes apart what a build printed of its cases: of each that ended, what it wrote and its status. Nothing is taken where a text of
-# the program looks like a line of the toolchain.
+# Takes apart what a build printed of its cases: of each that ended, what it wrote and its status. Status 6 is the smaller program's,
+# and no answer. Nothing is taken where a text of the program looks like a line of the toolchain.
 take_apart() {
     folder=$1 && shift
     lines=$(grep -c -x -E "== ($(echo "$@" | tr ' ' '|'))" "$own/out" || true)
@@ -37,7 +37,7 @@ take_apart() {
     mkdir -p "$folder"
     for each in "$@"; do
         status=$(sed -n "s/^case=$each run=ended status=\([0-9]*\) .*/\1/p" "$own/err")
-        if [ -z "$status" ]; then continue; fi
+        if [ -z "$status" ] || [ "$status" = 6 ]; then continue; fi
         awk -v name="$each" '/^== / { on = ($0 == "== " name); next } on' "$own/out" >"$folder/$each.out"
         awk -v name="$each" '
             /^case=[0-9a-z]+ run=/ { if ($1 == "case=" name) { printf "%s", text; exit } text = ""; next }
@@ -46,27 +46,37 @@ take_apart() {
     done
 }
 
-# Builds the program without a proof, and has it answer these commands on a file: COMMAND FILE [COMMAND FILE ..]
+# The words of a case, a line each: the command, behind a digit in the tour, and the option of watch.
+words_of() {
+    case $1 in
+    watchall | watchquiet) printf 'watch\n--%s\n{}\n' "${1#watch}" ;;
+    *) printf '%s\n{}\n' "${1#[0-9]}" ;;
+    esac
+}
+
+# Builds the program without a proof, and has it answer these cases on a file: CASE FILE [CASE FILE ..]
 build() {
     cases=$own/cases
     rm -rf "$cases" && mkdir "$cases"
     names=''
     while [ $# -gt 0 ]; do
         cp "$2" "$cases/$1"
-        printf '%s\n{}\n' "${1#[0-9]}" >"$cases/$1.args"
+        words_of "$1" >"$cases/$1.args"
         names="$names $1"
         shift 2
     done
     try svsim 'one to two minutes on 4 cores, 2 GB'
 }
 
-# The same of `watch` alone, by the smaller program.
+# The same of `watch` alone, by the smaller program, whose words have no command.
 build_watch() {
     cases=$own/cases
     mkdir "$cases"
-    cp "$1" "$cases/watch"
-    echo '{}' >"$cases/watch.args"
-    names=watch
+    names=$(suiting watch)
+    for each in $names; do
+        cp "$1" "$cases/$each"
+        words_of "$each" | sed 1d >"$cases/$each.args"
+    done
     try svsim_watch '20 to 40 seconds on 4 cores, 0.7 GB'
 }
 
@@ -87,10 +97,12 @@ forget_oldest() {
 }
 
 # The build read a copy of the file under the name `case`. What it printed is given the name that the caller gave, as the program prints
-# it: at the head of a line of check with `?` for each control character and each that sets the direction (crates/checks/src/shown.rt),
-# and in a picture its last component, of 60 characters at most, with `?` for what is not ASCII (crates/draw/src/heading.rt).
+# it: before the line's number in a report of watch as it is, at the head of a line of check with `?` for each control character and each
+# that sets the direction (crates/checks/src/shown.rt), and in a picture its last component, of 60 characters at most, with `?` for what
+# is not ASCII (crates/draw/src/heading.rt).
 named() {
     case $1 in
+    watch) NAME=$file awk '{ if ($0 ~ /^case:[0-9]+: /) print ENVIRON["NAME"] substr($0, 5); else print }' ;;
     check)
         NAME=$(printf %s "$file" | tr '\000-\037\177' '?' | LC_ALL=C sed 's/\xc2[\x80-\x9f]/?/g; s/\xd8\x9c/?/g
             s/\xe2\x80[\x8e\x8f\xaa-\xae]/?/g; s/\xe2\x81[\xa6-\xa9]/?/g') awk '
@@ -113,11 +125,12 @@ named_fault() {
     esac
 }
 
+# Prints the answer that was asked for, of those in a folder.
 print_answer() {
-    named "$2" <"$1/$2.out"
-    named_fault "$2" <"$1/$2.err" >&2
-    status=$(cat "$1/$2.status")
-    fault_hint "$2" "$file" "$status"
+    named "$command" <"$1/$asked.out"
+    named_fault "$command" <"$1/$asked.err" >&2
+    status=$(cat "$1/$asked.status")
+    fault_hint "$command" "$file" "$status"
     exit "$status"
 }
 
@@ -133,18 +146,20 @@ begin() {
 
 answer() {
     begin
+    asked=$command$option
     if ! { copy_of "$command" "$file" >"$own/given"; } 2>/dev/null; then refuse "cannot read $file" "is it there, and yours to read?"; fi
     if [ "$command" != watch ] && [ "$(wc -c <"$own/given")" -gt $most_bytes ]; then
         refuse 'file too large' "a file has at most $most_bytes bytes"
     fi
     if [ "$command" = live ] || [ "$file" = - ]; then store=$own/answers; fi
     folder=$(answers_on "$own/given")
-    if [ -f "$folder/$command.status" ]; then print_answer "$folder" "$command"; fi
+    if [ -f "$folder/$asked.status" ]; then print_answer "$folder"; fi
     whole=yes
     if [ "$command" = watch ]; then
         build_watch "$own/given"
+        take_apart "$folder" $names
         # Where the smaller program could not read, write or find memory, the whole one tells it.
-        if ! grep -q '^case=watch run=ended status=6 ' "$own/err"; then whole='' && take_apart "$folder" watch; fi
+        grep -q "^case=$asked run=ended status=6 " "$own/err" || whole=''
     fi
     if [ -n "$whole" ]; then
         set --
@@ -153,7 +168,7 @@ answer() {
         take_apart "$folder" $names
     fi
     forget_oldest
-    if [ -f "$folder/$command.status" ]; then print_answer "$folder" "$command"; fi
+    if [ -f "$folder/$asked.status" ]; then print_answer "$folder"; fi
     cat "$own/err" >&2
     echo "svsim: the unproved run gave no answer; it may take 60 seconds and print 1 MiB, the proved program more" >&2
     exit 6

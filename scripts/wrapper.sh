@@ -15,7 +15,8 @@ passed=0
 failed=0
 
 # The part of the toolchain: its version, builds of a program that prints `proved`, and a build that answers each case by what stands
-# in `lines`, `trouble` and `status`, keeps the file that it was given, and counts how often it was called.
+# in `lines`, `trouble` and `status`, keeps the file that it was given, and counts how often it was called. The smaller program's status
+# is that of `watch_status`, or of `status_of_CASE`.
 mkdir -p "$own/bin" "$own/tree/crates/svsim" "$own/tree/crates/svsim_watch" "$own/tree/examples/watch" "$own/tree/scripts"
 cat >"$own/bin/rt" <<'RT'
 #!/bin/sh
@@ -34,9 +35,10 @@ try)
         echo "== $name"
         cat "$play/lines"
         case $PWD in
-        */svsim_watch) echo 'line of watch' && status=$(cat "$play/watch_status") ;;
-        *) echo "line of $(head -n 1 "$args")" && status=$(cat "$play/status") ;;
+        */svsim_watch) words="watch $(tr '\n' ' ' <"$args")" && status=$(cat "$play/status_of_$name" "$play/watch_status" 2>/dev/null | head -n 1) ;;
+        *) words=$(tr '\n' ' ' <"$args") && status=$(cat "$play/status") ;;
         esac
+        echo "line of ${words% \{\} }"
         cat "$play/trouble" >&2
         echo "case=$name run=ended status=$status runners=1 proved=no" >&2
     done
@@ -86,6 +88,27 @@ says 'one word' 2 run 'svsim: usage: svsim COMMAND FILE'
 says 'three words' 2 "run $own/file.toml more" 'svsim: usage: svsim COMMAND FILE'
 says 'an option' 2 "run --json $own/file.toml" 'svsim: usage: svsim COMMAND FILE'
 says 'two dashes alone' 2 "run --" 'svsim: usage: svsim COMMAND FILE'
+refuses() { says "$1" 2 "$1" 'svsim: usage: svsim COMMAND FILE'; }
+for word in --all --quiet; do
+    for command in run live walk stale show draw check; do refuses "$command $word file.toml"; done
+    refuses "watch $word"
+    refuses "$word file.trace"
+    refuses "$word watch"
+    refuses "$word watch file.trace more"
+    refuses "watch $word $word file.trace"
+    refuses "$word watch file.trace $word"
+    refuses "watch $word=yes file.trace"
+    refuses "watch ${word%?} file.trace"
+    refuses "watch ${word#-} file.trace"
+    refuses "watch file.trace -- $word"
+    refuses "$word -- run file.toml"
+    refuses "$word help watch"
+    refuses "$word tour"
+    refuses "watch $word --help"
+done
+refuses 'watch --all --quiet file.trace'
+refuses '--quiet watch file.trace --all'
+refuses 'watch --everything file.trace'
 says 'no file' 2 "run $own/none" "svsim: cannot read $own/none"
 says 'a folder' 2 "watch $own" "svsim: cannot read $own"
 says 'a dash for a scenario' 2 'run -' 'svsim: cannot read -'
@@ -101,6 +124,8 @@ for word in run live walk stale show draw check watch; do
     says "$word --help" 0 "$word --help" ''
     judge "$word --help" "$(cat "$own/help")" "$(cat "$own/out")"
 done
+says 'help of watch' 0 'help watch' ''
+judge 'help of watch has its options' '--all --quiet ' "$(sed -n 's/^  \(--[a-z]*\) .*/\1/p' "$own/out" | tr '\n' ' ')"
 says 'help of no command' 2 'help rnu' 'svsim: usage: svsim COMMAND FILE'
 says 'the version' 0 --version ''
 judge 'the version names the toolchain' one "$(tail -n 1 "$own/out")"
@@ -116,6 +141,11 @@ helps 'two letters exchanged, and one more' "ilvex $own/file.toml" 'svsim help l
 helps 'a letter of run' "r $own/file.toml" 'perhaps svsim run; svsim help lists the commands'
 helps 'no command at all' "xyzzyq $own/file.toml" 'svsim help lists the commands'
 helps 'a command without a file' run 'svsim help lists the commands'
+helps 'watch without a file' watch 'svsim help watch tells what it takes'
+helps 'both options' "watch --all --quiet $own/file.toml" 'svsim help watch tells what it takes'
+helps 'a slip behind an option' "--all wach $own/file.toml" 'perhaps svsim watch; svsim help lists the commands'
+helps 'an option of watch for run' "run --all $own/file.toml" 'svsim help lists the commands'
+helps 'an option alone' --quiet 'svsim help lists the commands'
 helps 'no file' "run $own/none" 'no such file'
 helps 'a folder' "run $own" 'it is a folder'
 echo 3 | tee "$own/status" >"$own/watch_status"
@@ -286,6 +316,76 @@ judge 'is answered by the whole one' 'svsim_watch svsim' "$(tail -n 2 "$own/buil
 judge 'with its status' 0 "$("$svsim" watch "$own/file.trace" >/dev/null 2>&1; echo $?)"
 echo 0 >"$own/watch_status"
 
+# The options of watch: one build answers with each and without, wherever they stand before `--`
+cp "$own/file.trace" "$own/-t"
+cp "$own/file.trace" "$own/--all"
+forget
+before=$(builds)
+watches() { judge "$1" "line of watch$2" "$(cd "$own" && "$svsim" $1 2>"$own/err")"; }
+watches 'watch file.trace' ''
+watches 'watch --all file.trace' ' --all'
+judge 'nothing is said of a build of another option' '' "$(cat "$own/err")"
+watches '--all watch file.trace' ' --all'
+watches 'watch file.trace --all' ' --all'
+watches 'watch --all -- file.trace' ' --all'
+watches '--all -- watch -t' ' --all'
+watches 'watch --quiet file.trace' ' --quiet'
+watches '--quiet watch file.trace' ' --quiet'
+watches 'watch file.trace --quiet' ' --quiet'
+watches 'watch --quiet -- -t' ' --quiet'
+watches 'watch -- --all' ''
+watches 'watch --quiet -- --all' ' --quiet'
+watches '-- watch --all' ''
+judge 'one build answered them all' $((before + 1)) "$(builds)"
+echo 'a trace that is handed over' >"$own/file.trace"
+for option in '' --all --quiet; do
+    judge "a trace from standard input ${option:-without an option}" "line of watch${option:+ $option}" \
+        "$("$svsim" watch $option - <"$own/file.trace" 2>/dev/null)"
+done
+judge 'it is handed over' 'a trace that is handed over' "$(cat "$own/given")"
+judge 'is built each time' $((before + 4)) "$(builds)"
+judge 'an option of watch is not of the other commands' 'line of run' "$(answer)"
+
+# The status of each is kept too, and what the smaller program could not answer is left to the whole one
+echo 1 >"$own/status_of_watchall"
+echo 'a trace whose verdicts differ' >"$own/file.trace"
+status_of() { "$svsim" watch ${1-} "$own/file.trace" >/dev/null 2>&1; echo $?; }
+judge 'the statuses of the three' '0 1 0' "$(status_of) $(status_of --all) $(status_of --quiet)"
+echo 6 >"$own/status_of_watchall"
+echo 'a trace with too many verdicts' >"$own/file.trace"
+before=$(builds)
+judge 'a trace that the smaller program holds without an option' 0 "$(status_of)"
+judge 'and with the other' 0 "$(status_of --quiet)"
+judge 'by one build of it' $((before + 1)) "$(builds)"
+watches 'watch --all file.trace' ' --all'
+judge 'the third answer is that of the whole one' 'svsim_watch svsim' "$(tail -n 2 "$own/builds" | tr '\n' ' ' | sed 's/ $//')"
+judge 'its status' 0 "$(status_of --all)"
+watches 'watch --quiet file.trace' ' --quiet'
+judge 'is kept with the others' $((before + 3)) "$(builds)"
+rm "$own/status_of_watchall"
+echo 3 >"$own/watch_status"
+echo 'a trace with a wrong line, whose name is an option' >"$own/--all"
+judge 'a wrong line of the file --all: nothing else is said' '' "$(cd "$own" && "$svsim" watch -- --all 2>&1 >/dev/null | sed 1d)"
+echo 0 >"$own/watch_status"
+
+# The name of the trace in the lines of its report
+names() { judge "the name in a report: $1" "$3" "$(cd "$own" && "$svsim" watch $2 2>/dev/null | sed '$d')"; }
+printf '%s\n' 'case:15: use hart 1' '  cause 1: user pages' '  case:15: x' 'x case:15: y' 'case:15:3: y' 'case:: y' 'case:15 y' 'casement:15: y' \
+    'case:7: claim case:7: case:8: y' '26 records, 3 verdicts: case:1: y' >"$own/lines"
+report() { sed "s|^case:15: use|$1:15: use|; s|^case:7: claim|$1:7: claim|" "$own/lines"; }
+echo 'a trace with a report' >"$own/file.trace"
+names 'as it was called' file.trace "$(report file.trace)"
+names 'by another path' ./file.trace "$(report ./file.trace)"
+names 'with an option' '--all file.trace' "$(report file.trace)"
+names 'behind two dashes' '--quiet -- file.trace' "$(report file.trace)"
+judge 'the name in a report: standard input' "$(report -)" "$("$svsim" watch - <"$own/file.trace" 2>/dev/null | sed '$d')"
+cp "$own/file.trace" "$own/a \&1 \\n é"
+judge 'the name in a report: letters of awk and sed' "$own/a \&1 \\n é:15: use hart 1" \
+    "$("$svsim" watch "$own/a \&1 \\n é" 2>/dev/null | head -n 1)"
+judge 'no other command has it' "$(cat "$own/lines")" "$("$svsim" run "$own/file.trace" 2>/dev/null | sed '$d')"
+judge 'the tour names its trace' 'examples/watch/left-out-hart.trace:15: use hart 1' "$("$svsim" tour 2>/dev/null | grep ': use hart 1$' | tail -n 1)"
+: >"$own/lines"
+
 # The tour
 judge 'the tour shows three examples' 'line of walk line of run line of watch' \
     "$("$svsim" tour 2>/dev/null | grep '^line of' | tr '\n' ' ' | sed 's/ $//')"
@@ -344,6 +444,9 @@ chmod +x "$own/release/libexec/svsim"
 echo 'svsim of a release' >"$own/release/BUILD"
 printf '#!/bin/sh\necho called >"%s"\n' "$own/called" >"$own/bin/rt"
 judge 'a release answers' "released watch -" "$("$svsim" watch -)"
+judge 'a release passes an option on' "released --all watch -" "$("$svsim" --all watch -)"
+judge 'and two dashes' "released watch --quiet -- -" "$("$svsim" watch --quiet -- -)"
+says 'both options, of a release' 2 'watch --all --quiet -' 'svsim: usage: svsim COMMAND FILE'
 judge 'its status' 1 "$("$svsim" run "$own/file.toml" >/dev/null; echo $?)"
 says 'a word that is no command, of a release' 2 "rnu $own/file.toml" 'svsim: usage: svsim COMMAND FILE'
 says 'the version of a release' 0 --version ''
@@ -353,6 +456,8 @@ judge 'it has nothing to prove' 0 "$(grep -c prove "$own/out")"
 says 'a proof of a release' 0 prove 'svsim: a release is proved already; svsim --version says from what'
 judge 'the tour of a release' 3 "$("$svsim" tour 2>&1 | grep -c '^released ')"
 judge 'and its calls' 3 "$("$svsim" tour 2>/dev/null | grep -c '^\$ svsim [a-z]* /')"
+judge 'which are made as they are shown' "$("$svsim" tour 2>/dev/null | sed -n 's/^\$ svsim //p')" \
+    "$("$svsim" tour 2>/dev/null | sed -n 's/^released //p')"
 judge 'a release calls no toolchain' no "$([ -e "$own/called" ] && echo yes || echo no)"
 echo "$passed passed, $failed failed"
 [ "$failed" = 0 ]
