@@ -133,6 +133,8 @@ judge 'BUILD has the toolchain' 1 "$(grep -c -x "$(rt version)" "$root/BUILD")"
 judge 'BUILD has what the gate printed last' '    rt: all proved|    8 passed, 0 failed|' "$(grep '^    ' "$root/BUILD" | tr '\n' '|')"
 judge 'the version' "$(cat "$root/BUILD")" "$(bare "$root/bin/svsim" --version)"
 judge 'the tour' 3 "$(cd / && bare "$root/bin/svsim" tour | grep -c '^\$ svsim [a-z]* /')"
+options=$(bare "$root/bin/svsim" help watch | sed -n 's/^  \(--[a-z]*\) .*/\1/p' | tr '\n' ' ')
+judge 'the options of watch' '--all --quiet ' "$options"
 commands=$(bare "$root/bin/svsim" help | sed -n 's/^  \([a-z]*\) .*/\1/p' | tr '\n' ' ')
 judge 'the commands' 'run live walk stale show draw check watch tour help version ' "$commands"
 
@@ -175,12 +177,20 @@ if has man; then
     for command in $commands; do
         judge "$command in the manual page" 1 "$(man -l "$root/share/man/man1/svsim.1" 2>/dev/null | grep -c -E "^   $command( [A-Z]+)?\$")"
     done
+    for option in $options; do
+        judge "$option in the manual page" 2 "$(man -l "$root/share/man/man1/svsim.1" 2>/dev/null |
+            grep -c -E -- "(^       |\[|\|)$option")"
+    done
 else
     skip 'the manual page, since man is not there'
 fi
 if has bash; then
     judge 'completion by bash' "$commands" "$(bare bash -c '. "$1/share/bash-completion/completions/svsim"
         COMP_WORDS=("$1/bin/svsim" "") COMP_CWORD=1; _svsim; printf "%s " "${COMPREPLY[@]}"' bash "$root")"
+    judge 'options by bash' "$options" "$(bare bash -c '. "$1/share/bash-completion/completions/svsim"
+        COMP_WORDS=("$1/bin/svsim" watch -) COMP_CWORD=2; _svsim; printf "%s " "${COMPREPLY[@]}"' bash "$root")"
+    judge 'the command behind an option by bash' 'watch ' "$(bare bash -c '. "$1/share/bash-completion/completions/svsim"
+        COMP_WORDS=("$1/bin/svsim" --all wat) COMP_CWORD=2; _svsim; printf "%s " "${COMPREPLY[@]}"' bash "$root")"
     judge 'files by bash' "$root/BUILD" "$(bare bash -c '. "$1/share/bash-completion/completions/svsim"
         compopt() { :; }
         COMP_WORDS=("$1/bin/svsim" run "$1/BU") COMP_CWORD=2; _svsim; printf "%s" "${COMPREPLY[@]}"' bash "$root")"
@@ -190,6 +200,8 @@ fi
 if has fish; then
     judge 'completion by fish' 'walk watch ' "$(HOME=$own PATH=$root/bin:$PATH fish --no-config -c '
         source $argv[1]/share/fish/vendor_completions.d/svsim.fish; complete -C "svsim wa"' "$root" | cut -f 1 | tr '\n' ' ')"
+    judge 'options by fish' "$options" "$(HOME=$own PATH=$root/bin:$PATH fish --no-config -c '
+        source $argv[1]/share/fish/vendor_completions.d/svsim.fish; complete -C "svsim watch --"' "$root" | cut -f 1 | tr '\n' ' ')"
 else
     skip 'completion by fish'
 fi

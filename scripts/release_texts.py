@@ -56,13 +56,30 @@ def said(*words):
     return done.stdout.strip("\n")
 
 
+def options(text):
+    """The options of a command's help, each with what it does."""
+    return re.findall(r"(?m)^  (--[a-z]+) +(.*)$", text)
+
+
 def command(name, argument, line):
     """One command's part of the manual page: what `svsim help NAME` says, or its line of `svsim help`."""
     yield f".SS {roff(name)} \\fI{argument}\\fR" if argument else f".SS {roff(name)}"
     first, *others = (said(name) or f"svsim {f'{name} {argument}'.strip()} {line}.").split("\n\n")
     yield roff(first)
     for paragraph in others:
-        yield (".PP\n.EX\n{}\n.EE" if paragraph.startswith("  ") else ".PP\n{}").format(roff(paragraph))
+        if options(paragraph):
+            yield from (f".TP\n.B {roff(option)}\n{roff(told)}" for option, told in options(paragraph))
+        else:
+            yield (".PP\n.EX\n{}\n.EE" if paragraph.startswith("  ") else ".PP\n{}").format(roff(paragraph))
+
+
+def synopsis(commands):
+    """The calls: the common one, and one for each command that takes one of several options."""
+    yield ".SH SYNOPSIS\n.B svsim\n.I COMMAND FILE"
+    for name, argument, _ in commands:
+        words = [roff(option) for option, _ in options(said(name))]
+        if words:
+            yield f".br\n.B svsim {roff(name)}\n.RB [ {' | '.join(words)} ]\n.I {argument}"
 
 
 def statuses():
@@ -79,7 +96,7 @@ def manual(version, date):
     commands = re.findall(r"(?m)^  ([a-z]+) ([A-Z]*) *(.*)$", said())
     yield f'.TH SVSIM 1 {date} "svsim {version}" Melissaledge'
     yield f".SH NAME\nsvsim \\- {roff(title())}"
-    yield ".SH SYNOPSIS\n.B svsim\n.I COMMAND FILE"
+    yield from synopsis(commands)
     yield f".SH DESCRIPTION\n{roff(purpose())}"
     yield ".SH COMMANDS"
     for each in commands:

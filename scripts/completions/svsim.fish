@@ -1,6 +1,20 @@
-# fish: the commands of svsim as `svsim help` lists them, and files.
+# fish: the commands of svsim as `svsim help` lists them, the options of a command as its help lists them, and files.
 function __svsim_commands
     svsim help 2>/dev/null | string replace --regex --filter '^  ([a-z]+) [A-Z]* *(.*)' '$1\t$2'
 end
-complete -c svsim -f -n '__fish_use_subcommand; or __fish_seen_subcommand_from help' -a '(__svsim_commands)'
-complete -c svsim -F -n 'not __fish_use_subcommand; and not __fish_seen_subcommand_from help'
+# The first word that is no option.
+function __svsim_command
+    string match --invert -- '-?*' (commandline -opc)[2..] | head -n 1
+end
+function __svsim_wants_command
+    set -l command (__svsim_command)
+    contains -- "$command" '' help
+end
+# The options of the command, where none is given yet.
+function __svsim_options
+    if not string match --quiet -- '-?*' (commandline -opc)[2..]
+        svsim help (__svsim_command) 2>/dev/null | string replace --regex --filter '^  (--[a-z]+) +(.*)' '$1\t$2'
+    end
+end
+complete -c svsim -f -n __svsim_wants_command -a '(__svsim_commands)'
+complete -c svsim -F -n 'not __svsim_wants_command' -a '(__svsim_options)'
