@@ -1,20 +1,21 @@
 #!/usr/bin/env python3
 """Compares the two programs that judge traces: same_watch.py SVSIM SVSIM_WATCH
 
-On each trace of examples/ and of the lists of cases `svsim watch` and `svsim_watch` write the same, and end with the same status.
-The last line is `N passed, M failed`.
+On each trace of examples/ and of the lists of cases `svsim watch` and `svsim_watch` write the same, and end with the same status:
+without an option, with `--all`, and with `--quiet`. The last line is `N passed, M failed`.
 """
-import glob, os, subprocess, sys, tempfile
+import glob, os, re, subprocess, sys, tempfile
 from cases import cases, read
 
 TOP = os.path.dirname(os.path.dirname(os.path.abspath(__file__)))
+OPTIONS = ([], ["--all"], ["--quiet"])
 
 
 def traces():
     """The texts of all traces, each once."""
     found = [read(path) for path in sorted(glob.glob(f"{TOP}/examples/**/*.trace", recursive=True))]
     for path in sorted(glob.glob(f"{TOP}/examples/cases/lists/*.txt")):
-        found += [text for _, text, words, _ in cases(path, read(path)) if words == " watch FILE"]
+        found += [text for _, text, words, _ in cases(path, read(path)) if re.fullmatch(r" watch( --all| --quiet)? FILE", words)]
     return list(dict.fromkeys(found))
 
 
@@ -29,10 +30,11 @@ def main(svsim, svsim_watch):
         with tempfile.TemporaryDirectory() as folder:
             with open(os.path.join(folder, "FILE"), "w", newline="", encoding="utf-8") as file:
                 file.write(text)
-            wanted, got = answer([svsim, "watch", "FILE"], folder), answer([svsim_watch, "FILE"], folder)
-        passed, failed = passed + (got == wanted), failed + (got != wanted)
-        if got != wanted:
-            print(f"FAILED {text[:200]!r}: {got}, not {wanted}")
+            pairs = [(answer([svsim, "watch", *words, "FILE"], folder), answer([svsim_watch, *words, "FILE"], folder)) for words in OPTIONS]
+        for words, (wanted, got) in zip(OPTIONS, pairs):
+            passed, failed = passed + (got == wanted), failed + (got != wanted)
+            if got != wanted:
+                print(f"FAILED {' '.join(words)} {text[:200]!r}: {got}, not {wanted}")
     print(f"{passed} passed, {failed} failed")
     return failed > 0 or passed == 0
 
