@@ -35,7 +35,9 @@ try)
         echo "== $name"
         cat "$play/lines"
         case $PWD in
-        */svsim_watch) words="watch $(tr '\n' ' ' <"$args")" && status=$(cat "$play/status_of_$name" "$play/watch_status" 2>/dev/null | head -n 1) ;;
+        */svsim_watch)
+            words="watch $(tr '\n' ' ' <"$args")"
+            status=$(cat "$play/status_of_$name" "$play/watch_status" 2>/dev/null | head -n 1) ;;
         *) words=$(tr '\n' ' ' <"$args") && status=$(cat "$play/status") ;;
         esac
         echo "line of ${words% \{\} }"
@@ -370,8 +372,8 @@ echo 0 >"$own/watch_status"
 
 # The name of the trace in the lines of its report
 names() { judge "the name in a report: $1" "$3" "$(cd "$own" && "$svsim" watch $2 2>/dev/null | sed '$d')"; }
-printf '%s\n' 'case:15: use hart 1' '  cause 1: user pages' '  case:15: x' 'x case:15: y' 'case:15:3: y' 'case:: y' 'case:15 y' 'casement:15: y' \
-    'case:7: claim case:7: case:8: y' '26 records, 3 verdicts: case:1: y' >"$own/lines"
+printf '%s\n' 'case:15: use hart 1' '  cause 1: user pages' '  case:15: x' 'x case:15: y' 'case:15:3: y' 'case:: y' 'case:15 y' \
+    'casement:15: y' 'case:7: claim case:7: case:8: y' '26 records, 3 verdicts: case:1: y' >"$own/lines"
 report() { sed "s|^case:15: use|$1:15: use|; s|^case:7: claim|$1:7: claim|" "$own/lines"; }
 echo 'a trace with a report' >"$own/file.trace"
 names 'as it was called' file.trace "$(report file.trace)"
@@ -383,7 +385,8 @@ cp "$own/file.trace" "$own/a \&1 \\n é"
 judge 'the name in a report: letters of awk and sed' "$own/a \&1 \\n é:15: use hart 1" \
     "$("$svsim" watch "$own/a \&1 \\n é" 2>/dev/null | head -n 1)"
 judge 'no other command has it' "$(cat "$own/lines")" "$("$svsim" run "$own/file.trace" 2>/dev/null | sed '$d')"
-judge 'the tour names its trace' 'examples/watch/left-out-hart.trace:15: use hart 1' "$("$svsim" tour 2>/dev/null | grep ': use hart 1$' | tail -n 1)"
+judge 'the tour names its trace' 'examples/watch/left-out-hart.trace:15: use hart 1' \
+    "$("$svsim" tour 2>/dev/null | grep ': use hart 1$' | tail -n 1)"
 : >"$own/lines"
 
 # The tour
