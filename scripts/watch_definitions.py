@@ -1,7 +1,7 @@
 #!/usr/bin/env python3
 """The definitions of the crate `watch`, word for word over sets, for traces of a few hundred records.
 
-watch_definitions.py TRACE          prints each verdict that is given and new, one a line
+watch_definitions.py TRACE          prints each verdict that is given and new, behind its line of the file
 watch_definitions.py --random SEED  prints a random trace
 """
 import random
@@ -181,8 +181,8 @@ def shown(verdict, hart, x):
 
 
 def judge(lines):
-    trace, number = None, 0
-    for line in lines:
+    trace = None
+    for place, line in enumerate(lines, 1):
         if not line.strip() or line[0] == "#":
             continue
         if line.startswith("watch "):
@@ -192,9 +192,8 @@ def judge(lines):
         record = read(line)
         if record is None:
             continue
-        number += 1
         for text in sorted({shown(*given) for given in trace.record(record)}):
-            yield f"{number} {text}"
+            yield f"{place} {text}"
 
 
 class Kernel:

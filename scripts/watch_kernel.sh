@@ -68,22 +68,28 @@ run() {
     return "${PIPESTATUS[0]}"
 }
 
-# The lines that are wanted of a number, in the order of sort.
+# The lines that are wanted of a number, in the order of sort, without the name of the trace.
 wanted() {
-    if [ -f "$cases-$1.out" ]; then cat "$cases-$1.out"; else sed 's/^1 //' "$cases-$1.counts"; fi | sort
+    if [ -f "$cases-$1.counts" ]; then sed 's/^1 //' "$cases-$1.counts"
+    elif [ -f "$cases-$1.all" ]; then cat "$cases-$1.all"
+    else cat "$cases-$1.out"; fi | nameless | sort
+}
+
+nameless() {
+    sed -E 's/^[^ ]*:([0-9]+: )/\1/'
 }
 
 # Lines of a program, as the definitions show them.
 as_shown() {
-    sed -nE 's/^([0-9]+ [a-z-]+ hart [0-9]+) may hold page ([^,]*), stale since .*/\1 \2/p' | sed 's/ asid any root any$/ asid any/' | sort
+    sed -nE 's/^([0-9]+): ([a-z-]+ hart [0-9]+) may hold page ([^,]*), stale since .*/\1 \2 \3/p' | sed 's/ asid any root any$/ asid any/' | sort
 }
 
 # The verdicts on a trace have to be those of its case, and the status.
 judge() {
     local status=0
     if [ -n "$svsim" ]; then
-        "$svsim" watch "$2" >"$own/verdicts" || status=$?
-        wanted "$1" | cmp - <(sort "$own/verdicts") && [ $status = "$(cat "$cases-$1.status" 2>/dev/null || echo 0)" ]
+        "$svsim" watch --all "$2" >"$own/verdicts" || status=$?
+        wanted "$1" | cmp - <(nameless <"$own/verdicts" | sort) && [ $status = "$(cat "$cases-$1.status" 2>/dev/null || echo 0)" ]
     else
         python3 -B "$top/scripts/watch_definitions.py" "$2" >"$own/verdicts" || return 1
         wanted "$1" | as_shown | cmp - <(sort "$own/verdicts")
