@@ -4,6 +4,8 @@ pub mod FileLemmas
 pub mod OutputLemmas
 pub mod AskLemmas
 pub mod TroubleLemmas
+pub mod RowLemmas
+pub mod OptionLemmas
 pub mod WordLemmas
 pub mod OutcomeLemmas
 pub mod StaleLemmas

@@ -1,50 +1,38 @@
 -- What clap takes of words, and what is read off them.
-use Rattle.std.proofs.Common.{◌≡◌, ◌∙◌, ◌&&◌, ◌==◌, ℕ, Bool, true, false, List, [], ◌∷◌, length, Option, Some, None, refl, sym, subst, ap, ap₂, true≢false, cond, option_map, eqb-true}
-use Rattle.std.specs.Prelude.{codes, fold, option_and_then, slice_get, if◌then◌else◌}
+use Rattle.std.proofs.Common.{◌≡◌, ◌∙◌, ◌&&◌, ◌||◌, ◌++◌, ℕ, Bool, true, false, List, [], ◌∷◌, Option, Some, None, refl, sym, subst, ap, ap₂, true≢false, option_map, append-nil}
+use Rattle.std.specs.Prelude.{codes, fold, option_and_then, if◌then◌else◌, ⊤}
 use Rattle.std.specs.List.{list_all}
 use Rattle.std.specs.Option.{option_map_or}
-use lib.Utf8.{scalars}
-use Rattle.std.specs.Char.{encode_utf8}
-use Rattle.std.specs.Str.{bytes_eq, chars, encode_utf8_all, is_utf8}
-use Rattle.clap.specs.Words.{Row, Text, fault_of, first_value, matches_of, rows_of}
-use Rattle.clap.specs.declared.parser.matches.Found.{Found}
-use Rattle.clap.specs.Lexer.{long_of, long_of_rest, short_of, short_of_rest, strip_byte}
-use Rattle.clap.specs.Kinds.{Kinds, or_else}
-use Rattle.clap.specs.Faults.{bundle_fault, bundle_step_fault, check_fault, defaults_fault, entered_fault, flag_word_fault, flags_fault, settle_fault, step_fault, turn_fault, walk_fault, word_fault}
-use Rattle.clap.specs.Walk.{Held, Step, Walk, after_step, arg_by_index, finished, idle, is_empty, long_or_other, nothing_held, settled, short_or_plain, to_positional, trailing, value, walked, word_met}
-use Rattle.clap.specs.Simple.{Shape, built, entered}
+use Rattle.std.specs.Str.{bytes_eq, is_utf8}
+use Rattle.std.proofs.lemmas.Slice.Eq.{bytes_eq-Decides}
+use Rattle.clap.specs.Words.{Row, Rule, Text, fault_of, first_value, matches_of, rows_of}
 use Rattle.clap.specs.declared.error.kind.ErrorKind.{ErrorKind}
 use Rattle.clap.specs.declared.error.kind.ErrorKind.TheVariants as kinds
+use Rattle.clap.specs.declared.parser.matches.Found.{Found}
+use Rattle.clap.specs.declared.parser.matches.ValueSource.TheVariants.{CommandLine}
+use Rattle.clap.specs.Faults.{bundle_fault, check_fault, defaults_fault, entered_fault, flag_word_fault, settle_fault, step_fault, turn_fault, walk_fault, word_fault}
+use Rattle.clap.specs.Kinds.{Kinds, or_else}
+use Rattle.clap.specs.Lexer.{long_of}
+use Rattle.clap.specs.Simple.{built, entered}
+use Rattle.clap.specs.Walk.{Held, Step, Walk, after_step, arg_by_index, finished, idle, is_empty, is_pending, long_or_other, nothing_held, pushed, settled, settled_rows, short_or_plain, to_positional, trailing, used, value, walked, word_met}
 use Rattle.clap.proofs.WalkLemmas.{both, first_value-rows}
-use Rattle.std.proofs.lemmas.Slice.Eq.{bytes_eq-Decides}
-use Rattle.scenario.specs.CommandLine.{Asked, asked, asked_by, asked_in_rows, asked_of, asked_of_values, is_end, is_option, svsim, values}
+use Rattle.scenario.specs.declared.commands.Command.{Command}
+use Rattle.scenario.specs.CommandLine.{Asked, asked, asked_as, asked_by, asked_in_rows, asked_of, asked_of_values, asked_with, has_options, is_end, is_option, options, options_of, svsim, values, watch_detail}
+use Rattle.scenario.specs.Commands.{command_of}
+use Rattle.scenario.proofs.RowLemmas.{HasGiven, add_all, add_command, add_file, add_quiet, all_rule, asked_at_end, command_rule, file_rule, has_none, has_some, no_default_fault, quiet_rule, top, used_row}
+use Rattle.scenario.proofs.OptionLemmas.{IsOther, IsPlain, held_of, other_refused, plain_word}
 
 -- what clap found is what is asked for
 pub asked_found : (f : Found) (words : List (List ℕ)) → fault_of svsim words ≡ [] → rows_of f ≡ matches_of svsim words
-    → asked words ≡ asked_of (first_value f (codes "COMMAND")) (first_value f (codes "FILE"))
-asked_found f words none rows = rw (none, ← rows, first_value-rows f (codes "COMMAND"), first_value-rows f (codes "FILE")) refl
+    → asked words ≡ asked_of (first_value f)
+asked_found f words none rows =
+    rw (none, ← rows, first_value-rows f (codes "COMMAND"), first_value-rows f (codes "FILE"), first_value-rows f (codes "all"), first_value-rows f (codes "quiet")) refl
 
-abbrev top : Shape
-top = (built svsim).top
+-- ---- the walk
 
 -- the walk after the words so far: what is held, where the next value goes, and whether `--` was met
 abbrev at : Held → ℕ → Bool → Walk
 at held position ended = record { held = held; waiting = idle; position = position; is_trailing = ended; stopped = None }
-
-abbrev start : Bool → Walk
-start = at nothing_held 1
-
-abbrev held_one : Text → Held
-held_one a = record { rows = []; pending = Some (codes "COMMAND", a ∷ []); skip = 0 }
-
-abbrev after_one : Text → Bool → Walk
-after_one a = at (held_one a) 2
-
-abbrev held_two : Text → Text → Held
-held_two a b = record { rows = (settled top.rules (held_one a)).rows; pending = Some (codes "FILE", b ∷ []); skip = 0 }
-
-abbrev after_two : Text → Text → Bool → Walk
-after_two a b = at (held_two a b) 3
 
 -- what is asked for by the words from a walk on
 abbrev ends : Kinds → Held → Option Asked
@@ -68,9 +56,9 @@ no_entered_fault : (stop : Option (Text × List Text)) → entered_fault (built 
 no_entered_fault None = refl
 no_entered_fault (Some p) = refl
 
-from_start : (name : Text) (words : List Text) → asked (name ∷ words) ≡ from (start false) words
+from_start : (name : Text) (words : List Text) → asked (name ∷ words) ≡ from (at nothing_held 1 false) words
 from_start name words =
-    let w = fold (walked top.rules []) (start false) words in
+    let w = fold (walked top.rules []) (at nothing_held 1 false) words in
     rw (nothing_entered w.stopped, no_entered_fault w.stopped) refl
 
 -- one word
@@ -89,24 +77,26 @@ fails w word words kind one =
     let held = (fold (walked top.rules []) w (word ∷ words)).held in
     ends (or_else (or_else faults (walk_fault top [] (walked top.rules [] w word) words)) (last_fault held)) held) one
 
--- ---- words that are values
+abbrev Pending : Type 0
+Pending = Option (Text × List Text)
 
--- a word is no option where clap sees none in it
-abbrev IsPlain : Text → Type 0
-IsPlain word = (is_end word ≡ false) × (long_of word ≡ None) × (short_of word ≡ None)
+-- these values and flags are held; what is pending goes in without a fault
+record Holds (rows : List Row) (pending : Pending) (command file : Option Text) (all quiet : Bool) : Type 0 where
+  settles : settle_fault top.rules false (held_of rows pending) ≡ []
+  has : HasGiven (settled_rows top.rules pending rows) command file all quiet
 
-plain_word : (word : Text) → is_end word ≡ false → is_option word ≡ false → IsPlain word
-plain_word [] no_end no_option = (no_end, refl, refl)
-plain_word (x ∷ []) no_end no_option = (no_end, one_long (x == 45), one_short (x == 45))
-  where
-    one_long : (t : Bool) → option_and_then long_of_rest (option_and_then (strip_byte 45) (cond t (Some []) None)) ≡ None
-    one_long true = refl
-    one_long false = refl
+-- no words are left
+at_last : (rows : List Row) (pending : Pending) (c f : Option Text) (all quiet : Bool) (position : ℕ) (ended : Bool) → Holds rows pending c f all quiet
+    → from (at (held_of rows pending) position ended) [] ≡ asked_with c (options_of all quiet) f
+unfolding walk_fault
+at_last rows pending c f all quiet position ended holds =
+    let held = held_of rows pending in
+    let last = check_fault top (finished top.rules held) false in
+    ap (λ (k : Kinds). ends (or_else k (or_else (defaults_fault (settled top.rules held).rows top.rules) last)) held) holds.settles
+    ∙ (ap (λ (k : Kinds). ends (or_else k last) held) (no_default_fault (settled top.rules held).rows)
+    ∙ asked_at_end (settled_rows top.rules pending rows) c f all quiet holds.has)
 
-    one_short : (t : Bool) → option_and_then short_of_rest (cond t (Some []) None) ≡ None
-    one_short true = refl
-    one_short false = refl
-plain_word (x ∷ y ∷ rest) no_end no_option = (no_end, rw no_option refl, rw no_option refl)
+-- ---- a word that is a value
 
 plain_met : (word : Text) (position : ℕ) (held : Held) → IsPlain word → word_met top.rules [] false idle position word held ≡ (held, value)
 plain_met word position held plain =
@@ -121,56 +111,72 @@ plain_fault word held plain =
     ∙ (ap (λ (o : Option (Text × Option Text)). flag_word_fault top.rules false o word held) plain.1
     ∙ ap (λ (o : Option Text). option_map_or (λ flags. bundle_fault top.rules false flags held) o []) plain.2)
 
-plain_turn : (word : Text) (position : ℕ) (held : Held) → IsPlain word → turn_fault top [] (at held position false) word ≡ step_fault top position held value
-plain_turn word position held plain =
+-- behind `--` any word is a value
+abbrev IsValue : Bool → Text → Type 0
+IsValue true word = ⊤
+IsValue false word = IsPlain word
+
+value_turn : (ended : Bool) (word : Text) (position : ℕ) (held : Held) → IsValue ended word → turn_fault top [] (at held position ended) word ≡ step_fault top position held value
+value_turn true word position held any = refl
+value_turn false word position held plain =
     ap₂ (λ (own : Kinds) (met : Held × Step). or_else own (step_fault top position met.0 met.1)) (plain_fault word held plain) (plain_met word position held plain)
 
-plain_walked : (word : Text) (position : ℕ) (held : Held) → IsPlain word
-    → walked top.rules [] (at held position false) word ≡ to_positional top.rules (arg_by_index top.rules position) word (at held position false) held
+value_walked : (ended : Bool) (word : Text) (position : ℕ) (held : Held) → IsValue ended word
+    → walked top.rules [] (at held position ended) word ≡ to_positional top.rules (arg_by_index top.rules position) word (at held position ended) held
 unfolding walked
-plain_walked word position held plain =
+value_walked true word position held any = refl
+value_walked false word position held plain =
     ap (λ (met : Held × Step). after_step top.rules word (at held position false) met.0 met.1) (plain_met word position held plain)
 
--- a first value is COMMAND, a second FILE, and none takes a third
-first_fault : (ended : Bool) → step_fault top 1 nothing_held value ≡ []
-first_fault ended = refl
+never : {X : Type 0} (t : Bool) (x y : X) → (if t && false then x else y) ≡ y
+never true x y = refl
+never false x y = refl
 
-second_fault : (a : Text) → step_fault top 2 (held_one a) value ≡ []
-second_fault a = refl
+or_false : (t : Bool) → (t || false) ≡ t
+or_false true = refl
+or_false false = refl
 
-third_fault : (a b : Text) → step_fault top 3 (held_two a b) value ≡ kinds.UnknownArgument ∷ []
-third_fault a b = refl
+abbrev repeated : Bool → Kinds
+repeated has = if has && true then kinds.ArgumentConflict ∷ [] else []
 
-first_walked : (word : Text) → to_positional top.rules (arg_by_index top.rules 1) word (start false) nothing_held ≡ after_one word false
-first_walked word = refl
+module _ (rows : List Row) (pending : Pending) (all quiet : Bool) (ended : Bool) (word : Text) where
+  abbrev so_far : List Row
+  so_far = settled_rows top.rules pending rows
 
-second_walked : (a word : Text) → to_positional top.rules (arg_by_index top.rules 2) word (after_one a false) (held_one a) ≡ after_two a word false
-second_walked a word = refl
+  abbrev now : Held
+  now = held_of rows pending
 
-first_plain : (word : Text) (words : List Text) → IsPlain word → from (start false) (word ∷ words) ≡ from (after_one word false) words
-first_plain word words plain =
-    goes_on _ _ word words (plain_turn word 1 nothing_held plain) (plain_walked word 1 nothing_held plain)
+  -- a first value is COMMAND, a second FILE, and none takes a third
+  first_goes : (words : List Text) → Holds rows pending None None all quiet → IsValue ended word
+      → from (at now 1 ended) (word ∷ words) ≡ from (at (held_of so_far (Some (codes "COMMAND", word ∷ []))) 2 ended) words
+  first_goes words holds is =
+      goes_on _ _ word words (value_turn ended word 1 now is ∙ (never (is_pending command_rule pending) [] (settle_fault top.rules false now) ∙ holds.settles))
+      (value_walked ended word 1 now is
+      ∙ ap₂ (λ (h : Held) (t : Bool). at (pushed (codes "COMMAND") word h) 2 t) (never (is_pending command_rule pending) now (settled top.rules now)) (or_false ended))
 
-second_plain : (a word : Text) (words : List Text) → IsPlain word → from (after_one a false) (word ∷ words) ≡ from (after_two a word false) words
-second_plain a word words plain =
-    goes_on _ _ word words (plain_turn word 2 (held_one a) plain) (plain_walked word 2 (held_one a) plain)
+  first_held : Holds rows pending None None all quiet → Holds so_far (Some (codes "COMMAND", word ∷ [])) (Some word) None all quiet
+  first_held holds = record {
+    settles = ap (λ t. or_else (repeated t) []) (has_none (codes "COMMAND") so_far holds.has.command_is);
+    has = subst (λ rs. HasGiven rs (Some word) None all quiet) (sym (used_row (codes "COMMAND") _ _ so_far holds.has.command_is)) (add_command so_far _ _ _ word holds.has);
+  }
 
-third_plain : (a b word : Text) (words : List Text) → IsPlain word → from (after_two a b false) (word ∷ words) ≡ None
-third_plain a b word words plain = fails _ word words kinds.UnknownArgument (plain_turn word 3 (held_two a b) plain)
+  second_goes : (a : Text) (words : List Text) → Holds rows pending (Some a) None all quiet → IsValue ended word
+      → from (at now 2 ended) (word ∷ words) ≡ from (at (held_of so_far (Some (codes "FILE", word ∷ []))) 3 ended) words
+  second_goes a words holds is =
+      goes_on _ _ word words (value_turn ended word 2 now is ∙ (never (is_pending file_rule pending) [] (settle_fault top.rules false now) ∙ holds.settles))
+      (value_walked ended word 2 now is
+      ∙ ap₂ (λ (h : Held) (t : Bool). at (pushed (codes "FILE") word h) 3 t) (never (is_pending file_rule pending) now (settled top.rules now)) (or_false ended))
 
--- behind `--` any word is a value
-first_ended : (word : Text) (words : List Text) → from (start true) (word ∷ words) ≡ from (after_one word true) words
-unfolding walked
-first_ended word words = goes_on _ _ word words refl refl
+  second_held : (a : Text) → Holds rows pending (Some a) None all quiet → Holds so_far (Some (codes "FILE", word ∷ [])) (Some a) (Some word) all quiet
+  second_held a holds = record {
+    settles = ap (λ t. or_else (repeated t) []) (has_none (codes "FILE") so_far holds.has.file_is);
+    has = subst (λ rs. HasGiven rs (Some a) (Some word) all quiet) (sym (used_row (codes "FILE") _ _ so_far holds.has.file_is)) (add_file so_far _ _ _ word holds.has);
+  }
 
-second_ended : (a word : Text) (words : List Text) → from (after_one a true) (word ∷ words) ≡ from (after_two a word true) words
-unfolding walked
-second_ended a word words = goes_on _ _ word words refl refl
+  third_fails : (words : List Text) → IsValue ended word → from (at now 3 ended) (word ∷ words) ≡ None
+  third_fails words is = fails _ word words kinds.UnknownArgument (value_turn ended word 3 now is)
 
-third_ended : (a b word : Text) (words : List Text) → from (after_two a b true) (word ∷ words) ≡ None
-third_ended a b word words = fails _ word words kinds.UnknownArgument refl
-
--- ---- `--`, and options
+-- ---- a word that is none
 
 end_is : (word : Text) → is_end word ≡ true → word ≡ 45 ∷ 45 ∷ []
 end_is word is = (bytes_eq-Decides word (45 ∷ 45 ∷ [])).0 is
@@ -183,141 +189,192 @@ at_end : (held : Held) (position : ℕ) (word : Text) (words : List Text) → is
     → from (at held position false) (word ∷ words) ≡ from (at held position true) words
 at_end held position word words is = ap (λ (w : Text). from (at held position false) (w ∷ words)) (end_is word is) ∙ end_here held position words
 
--- a text of more than one byte has a second character, if its first is one byte
-second_char : (y : ℕ) (rest : Text) → is_utf8 (45 ∷ y ∷ rest) ≡ true → (c : ℕ) × (cs : List ℕ) × (chars (y ∷ rest) ≡ c ∷ cs)
-unfolding is_utf8 chars encode_utf8
-second_char y rest text = go (chars (y ∷ rest)) refl
+module _ (rows : List Row) (pending : Pending) (c f : Option Text) (position : ℕ) (words : List Text) where
+  abbrev rows_now : List Row
+  rows_now = settled_rows top.rules pending rows
+
+  abbrev here : Walk
+  here = at (held_of rows pending) position false
+
+  abbrev flag_fault : Kinds → Bool → Kinds
+  flag_fault settles has = or_else (or_else settles (or_else (repeated has) [])) []
+
+  abbrev with_flag : Rule → List Row
+  with_flag rule = used rule [] rows_now
+
+  all_goes : (quiet : Bool) → Holds rows pending c f false quiet → from here (codes "--all" ∷ words) ≡ from (at (held_of (with_flag all_rule) None) position false) words
+  unfolding walked
+  all_goes quiet holds = goes_on _ _ _ words (ap₂ flag_fault holds.settles (has_none (codes "all") rows_now holds.has.all_is)) refl
+
+  all_held : (quiet : Bool) → Holds rows pending c f false quiet → Holds (with_flag all_rule) None c f true quiet
+  all_held quiet holds = record {
+    settles = refl;
+    has = subst (λ rs. HasGiven rs c f true quiet) (sym (used_row (codes "all") _ _ rows_now holds.has.all_is)) (add_all rows_now _ _ _ CommandLine (codes "true") holds.has);
+  }
+
+  all_again : (quiet : Bool) → Holds rows pending c f true quiet → from here (codes "--all" ∷ words) ≡ None
+  all_again quiet holds = fails _ _ words kinds.ArgumentConflict (ap₂ flag_fault holds.settles (has_some (codes "all") rows_now _ holds.has.all_is))
+
+  quiet_goes : (all : Bool) → Holds rows pending c f all false → from here (codes "--quiet" ∷ words) ≡ from (at (held_of (with_flag quiet_rule) None) position false) words
+  unfolding walked
+  quiet_goes all holds = goes_on _ _ _ words (ap₂ flag_fault holds.settles (has_none (codes "quiet") rows_now holds.has.quiet_is)) refl
+
+  quiet_held : (all : Bool) → Holds rows pending c f all false → Holds (with_flag quiet_rule) None c f all true
+  quiet_held all holds = record {
+    settles = refl;
+    has = subst (λ rs. HasGiven rs c f all true) (sym (used_row (codes "quiet") _ _ rows_now holds.has.quiet_is)) (add_quiet rows_now _ _ _ CommandLine (codes "true") holds.has);
+  }
+
+  quiet_again : (all : Bool) → Holds rows pending c f all true → from here (codes "--quiet" ∷ words) ≡ None
+  quiet_again all holds = fails _ _ words kinds.ArgumentConflict (ap₂ flag_fault holds.settles (has_some (codes "quiet") rows_now _ holds.has.quiet_is))
+
+  at_other : (word : Text) → is_end word ≡ false → is_option word ≡ true → IsOther word → is_utf8 word ≡ true → from here (word ∷ words) ≡ None
+  at_other word no_end option other text =
+      let refused = other_refused rows pending word option no_end other text in
+      let met = word_met top.rules [] false idle position word (held_of rows pending) in
+      fails here word words refused.0 (ap (λ (own : Kinds). or_else own (step_fault top position met.0 met.1)) refused.1)
+
+-- ---- what is read off the words
+
+none_after : {X Y : Type 0} (o : Option X) (f : X → Option Y) → ((x : X) → f x ≡ None) → option_and_then f o ≡ None
+none_after None f none = refl
+none_after (Some x) f none = none x
+
+-- two options ask for nothing
+two_options : (vs : List Text) (one other : Text) (more : List Text) → asked_of_values vs (one ∷ other ∷ more) ≡ None
+two_options [] one other more = refl
+two_options (word ∷ []) one other more = refl
+two_options (word ∷ file ∷ []) one other more = none_after (command_of word) _ (λ command. refl)
+two_options (word ∷ file ∷ next ∷ rest) one other more = refl
+
+-- nor does one that is neither `--all` nor `--quiet`
+no_such_option : (vs : List Text) (one : Text) → IsOther one → asked_of_values vs (one ∷ []) ≡ None
+no_such_option [] one other = refl
+no_such_option (word ∷ []) one other = refl
+no_such_option (word ∷ file ∷ []) one other = none_after (command_of word) _ (λ command. go (has_options command) command)
   where
-    go : (cs : List ℕ) → chars (y ∷ rest) ≡ cs → (c : ℕ) × (cs : List ℕ) × (chars (y ∷ rest) ≡ c ∷ cs)
-    go (c ∷ cs) is = (c, cs, is)
-    go [] is = absurd (true≢false (sym text ∙ ap (λ (cs : List ℕ). scalars (45 ∷ cs) && bytes_eq (encode_utf8_all (45 ∷ cs)) (45 ∷ y ∷ rest)) is))
+    go : (t : Bool) (command : Command) → option_map (λ detail. asked_as command detail file) (if t then watch_detail one else None) ≡ None
+    go true command = rw (other.0, other.1) refl
+    go false command = refl
+no_such_option (word ∷ file ∷ next ∷ rest) one other = refl
 
-abbrev held_of : List Row → Option (Text × List Text) → Held
-held_of rows pending = record { rows = rows; pending = pending; skip = 0 }
-
--- `-x..`
-short_fault_here : (y : ℕ) (rest : Text) (rows : List Row) (pending : Option (Text × List Text)) → (y == 45) ≡ false
-    → is_end (45 ∷ y ∷ rest) ≡ false → is_utf8 (45 ∷ y ∷ rest) ≡ true
-    → word_fault top [] false idle (45 ∷ y ∷ rest) (held_of rows pending) ≡ kinds.UnknownArgument ∷ []
-unfolding flags_fault
-short_fault_here y rest rows pending no_dash no_end text =
-    let word = 45 ∷ y ∷ rest in
-    let held = held_of rows pending in
-    let no_long : long_of word ≡ None = rw no_dash refl in
-    let short : short_of word ≡ Some (y ∷ rest) = rw no_dash refl in
-    ap (λ (t : Bool). if t then [] else flag_word_fault top.rules false (long_of word) word held) no_end
-    ∙ (ap (λ (o : Option (Text × Option Text)). flag_word_fault top.rules false o word held) no_long
-    ∙ (ap (λ (o : Option Text). option_map_or (λ flags. bundle_fault top.rules false flags held) o []) short
-    ∙ ap (λ (cs : List ℕ). bundle_step_fault top.rules false (slice_get cs 0) (y ∷ rest) 0 held (flags_fault top.rules false (length rest))) (second_char y rest text).2))
-
--- `--x..`
-long_fault_here : (rest : Text) (rows : List Row) (pending : Option (Text × List Text)) → is_end (45 ∷ 45 ∷ rest) ≡ false
-    → word_fault top [] false idle (45 ∷ 45 ∷ rest) (held_of rows pending) ≡ kinds.UnknownArgument ∷ []
-long_fault_here [] rows pending no_end = absurd (true≢false no_end)
-long_fault_here (z ∷ rest) rows pending no_end = refl
-
-option_fault_of : (word : Text) (rows : List Row) (pending : Option (Text × List Text)) → is_end word ≡ false → is_option word ≡ true → is_utf8 word ≡ true
-    → word_fault top [] false idle word (held_of rows pending) ≡ kinds.UnknownArgument ∷ []
-option_fault_of [] rows pending no_end option text = absurd (true≢false (sym option))
-option_fault_of (x ∷ []) rows pending no_end option text = absurd (true≢false (sym option))
-option_fault_of (x ∷ y ∷ rest) rows pending no_end option text =
-    ap (λ (z : ℕ). word_fault top [] false idle (z ∷ y ∷ rest) (held_of rows pending)) dash
-    ∙ go (y == 45) refl (subst (λ z. is_end (z ∷ y ∷ rest) ≡ false) dash no_end) (subst (λ z. is_utf8 (z ∷ y ∷ rest) ≡ true) dash text)
-  where
-    dash : x ≡ 45
-    dash = eqb-true x 45 option
-
-    go : (t : Bool) → (y == 45) ≡ t → is_end (45 ∷ y ∷ rest) ≡ false → is_utf8 (45 ∷ y ∷ rest) ≡ true
-        → word_fault top [] false idle (45 ∷ y ∷ rest) (held_of rows pending) ≡ kinds.UnknownArgument ∷ []
-    go true e n u =
-        let second : y ≡ 45 = eqb-true y 45 e in
-        ap (λ (z : ℕ). word_fault top [] false idle (45 ∷ z ∷ rest) (held_of rows pending)) second
-        ∙ long_fault_here rest rows pending (subst (λ z. is_end (45 ∷ z ∷ rest) ≡ false) second n)
-    go false e n u = short_fault_here y rest rows pending e n u
-
-at_option : (rows : List Row) (pending : Option (Text × List Text)) (position : ℕ) (word : Text) (words : List Text) → is_end word ≡ false → is_option word ≡ true
-    → is_utf8 word ≡ true → from (at (held_of rows pending) position false) (word ∷ words) ≡ None
-at_option rows pending position word words no_end option text =
-    let w = at (held_of rows pending) position false in
-    fails w word words kinds.UnknownArgument (ap (λ (own : Kinds).
-    or_else own (step_fault top position (word_met top.rules [] false idle position word w.held).0 (word_met top.rules [] false idle position word w.held).1))
-    (option_fault_of word rows pending no_end option text))
+other_option : (vs : List Text) (all quiet : Bool) (one : Text) (more : List Text) → IsOther one → asked_of_values vs (options_of all quiet ++ one ∷ more) ≡ None
+other_option vs false false one [] other = no_such_option vs one other
+other_option vs false false one (next ∷ more) other = two_options vs one next more
+other_option vs true false one more other = two_options vs _ one more
+other_option vs false true one more other = two_options vs _ one more
+other_option vs true true one more other = two_options vs _ _ (one ∷ more)
 
 -- ---- all words
 
-asks_more : (front : List Text → List Text) (word : Text) (o : Option (List Text))
-    → asked_of_values (option_map (λ vs. front (word ∷ vs)) o) ≡ asked_of_values (option_map front (option_map (λ vs. word ∷ vs) o))
-asks_more front word None = refl
-asks_more front word (Some vs) = refl
+no_more : (vs : List Text) (all quiet : Bool) → asked_of_values vs (options_of all quiet) ≡ asked_of_values vs (options_of all quiet ++ [])
+no_more vs all quiet = ap (asked_of_values vs) (sym (append-nil (options_of all quiet)))
 
-none_of_three : (a b word : Text) (o : Option (List Text)) → None ≡ asked_of_values (option_map (λ vs. a ∷ b ∷ vs) (option_map (λ vs. word ∷ vs) o))
-none_of_three a b word None = refl
-none_of_three a b word (Some vs) = refl
+module _ (rows : List Row) (pending : Pending) (c f : Option Text) (position : ℕ) (front : List Text → List Text) (words : List Text)
+    (flags : (next : List Row) (all quiet : Bool) → Holds next None c f all quiet
+    → from (at (held_of next None) position false) words ≡ asked_of_values (front (values words)) (options_of all quiet ++ options words)) where
+  abbrev start : Walk
+  start = at (held_of rows pending) position false
 
--- the next word is `--`, an option or a value
-next_word : (rows : List Row) (pending : Option (Text × List Text)) (position : ℕ) (front : List Text → List Text) (word : Text) (words : List Text)
-    → is_utf8 word ≡ true
-    → from (at (held_of rows pending) position true) words ≡ asked_of_values (option_map front (values true words))
-    → (IsPlain word → from (at (held_of rows pending) position false) (word ∷ words) ≡ asked_of_values (option_map front (option_map (λ vs. word ∷ vs) (values false words))))
-    → from (at (held_of rows pending) position false) (word ∷ words) ≡ asked_of_values (option_map front (values false (word ∷ words)))
-next_word rows pending position front word words text ended plain = go (is_end word) (is_option word) refl refl
-  where
-    go : (end option : Bool) → is_end word ≡ end → is_option word ≡ option
-        → from (at (held_of rows pending) position false) (word ∷ words) ≡ asked_of_values (option_map front (values false (word ∷ words)))
-    go true option e o = rw e (at_end (held_of rows pending) position word words e ∙ ended)
-    go false true e o = rw (e, o) (at_option rows pending position word words e o text)
-    go false false e o = rw (e, o) (plain (plain_word word e o))
+  -- an option, where these were given
+  abbrev IsRead : Bool → Bool → Text → Type 0
+  IsRead all quiet word = from start (word ∷ words) ≡ asked_of_values (front (values words)) (options_of all quiet ++ word ∷ options words)
+
+  nothing : (one other : Text) (more : List Text) → None ≡ asked_of_values (front (values words)) (one ∷ other ∷ more)
+  nothing one other more = sym (two_options (front (values words)) one other more)
+
+  all_read : (all quiet : Bool) → Holds rows pending c f all quiet → IsRead all quiet (codes "--all")
+  all_read false false holds = all_goes rows pending c f position words false holds ∙ flags _ true false (all_held rows pending c f position words false holds)
+  all_read false true holds =
+      all_goes rows pending c f position words true holds ∙ (flags _ true true (all_held rows pending c f position words true holds)
+      ∙ (two_options (front (values words)) _ _ _ ∙ nothing _ _ _))
+  all_read true false holds = all_again rows pending c f position words false holds ∙ nothing _ _ _
+  all_read true true holds = all_again rows pending c f position words true holds ∙ nothing _ _ _
+
+  quiet_read : (all quiet : Bool) → Holds rows pending c f all quiet → IsRead all quiet (codes "--quiet")
+  quiet_read false false holds = quiet_goes rows pending c f position words false holds ∙ flags _ false true (quiet_held rows pending c f position words false holds)
+  quiet_read true false holds = quiet_goes rows pending c f position words true holds ∙ flags _ true true (quiet_held rows pending c f position words true holds)
+  quiet_read false true holds = quiet_again rows pending c f position words false holds ∙ nothing _ _ _
+  quiet_read true true holds = quiet_again rows pending c f position words true holds ∙ nothing _ _ _
+
+  module _ (all quiet : Bool) (holds : Holds rows pending c f all quiet) where
+    option_read : (word : Text) → is_end word ≡ false → is_option word ≡ true → is_utf8 word ≡ true → IsRead all quiet word
+    option_read word no_end option text = go (bytes_eq word (codes "--all")) (bytes_eq word (codes "--quiet")) refl refl
+      where
+        go : (is_all is_quiet : Bool) → bytes_eq word (codes "--all") ≡ is_all → bytes_eq word (codes "--quiet") ≡ is_quiet → IsRead all quiet word
+        go true is_quiet a q = subst (IsRead all quiet) (sym ((bytes_eq-Decides word (codes "--all")).0 a)) (all_read all quiet holds)
+        go false true a q = subst (IsRead all quiet) (sym ((bytes_eq-Decides word (codes "--quiet")).0 q)) (quiet_read all quiet holds)
+        go false false a q =
+            at_other rows pending c f position words word no_end option (a, q) text ∙ sym (other_option (front (values words)) all quiet word (options words) (a, q))
+
+    -- the next word is `--`, an option or a value
+    next_word : (word : Text) → is_utf8 word ≡ true → from (at (held_of rows pending) position true) words ≡ asked_of_values (front words) (options_of all quiet)
+        → (IsPlain word → from start (word ∷ words) ≡ asked_of_values (front (word ∷ values words)) (options_of all quiet ++ options words))
+        → from start (word ∷ words) ≡ asked_of_values (front (values (word ∷ words))) (options_of all quiet ++ options (word ∷ words))
+    next_word word text ended plain = go (is_end word) (is_option word) refl refl
+      where
+        go : (end option : Bool) → is_end word ≡ end → is_option word ≡ option
+            → from start (word ∷ words) ≡ asked_of_values (front (values (word ∷ words))) (options_of all quiet ++ options (word ∷ words))
+        go true option e o = rw e (at_end (held_of rows pending) position word words e ∙ (ended ∙ no_more (front words) all quiet))
+        go false true e o = rw (e, o) (option_read word e o text)
+        go false false e o = rw (e, o) (plain (plain_word word e o))
 
 texts_after : (word : Text) (words : List Text) → list_all is_utf8 (word ∷ words) ≡ true → (is_utf8 word ≡ true) × (list_all is_utf8 words ≡ true)
 texts_after word words texts = both (is_utf8 word) (list_all is_utf8 words) texts
 
-two_ended : (a b : Text) (words : List Text) → from (after_two a b true) words ≡ asked_of_values (option_map (λ vs. a ∷ b ∷ vs) (values true words))
-unfolding walk_fault defaults_fault
-two_ended a b [] = refl
-two_ended a b (word ∷ words) = third_ended a b word words ∙ none_of_three a b word (values true words)
+-- from a walk behind `--`, which took two values, one or none
+two_ended : (a b : Text) (rows : List Row) (pending : Pending) (all quiet : Bool) (words : List Text) → Holds rows pending (Some a) (Some b) all quiet
+    → from (at (held_of rows pending) 3 true) words ≡ asked_of_values (a ∷ b ∷ words) (options_of all quiet)
+two_ended a b rows pending all quiet [] holds = at_last rows pending (Some a) (Some b) all quiet 3 true holds
+two_ended a b rows pending all quiet (word ∷ words) holds = third_fails rows pending all quiet true word words tt
 
-one_ended : (a : Text) (words : List Text) → from (after_one a true) words ≡ asked_of_values (option_map (λ vs. a ∷ vs) (values true words))
-unfolding walk_fault defaults_fault
-one_ended a [] = refl
-one_ended a (word ∷ words) = second_ended a word words ∙ (two_ended a word words ∙ asks_more (λ vs. a ∷ vs) word (values true words))
+one_ended : (a : Text) (rows : List Row) (pending : Pending) (all quiet : Bool) (words : List Text) → Holds rows pending (Some a) None all quiet
+    → from (at (held_of rows pending) 2 true) words ≡ asked_of_values (a ∷ words) (options_of all quiet)
+one_ended a rows pending all quiet [] holds = at_last rows pending (Some a) None all quiet 2 true holds
+one_ended a rows pending all quiet (word ∷ words) holds =
+    second_goes rows pending all quiet true word a words holds tt ∙ two_ended a word _ _ all quiet words (second_held rows pending all quiet true word a holds)
 
-none_ended : (words : List Text) → from (start true) words ≡ asked_of_values (option_map (λ vs. vs) (values true words))
-unfolding walk_fault defaults_fault
-none_ended [] = refl
-none_ended (word ∷ words) = first_ended word words ∙ (one_ended word words ∙ asks_more (λ vs. vs) word (values true words))
+none_ended : (rows : List Row) (pending : Pending) (all quiet : Bool) (words : List Text) → Holds rows pending None None all quiet
+    → from (at (held_of rows pending) 1 true) words ≡ asked_of_values words (options_of all quiet)
+none_ended rows pending all quiet [] holds = at_last rows pending None None all quiet 1 true holds
+none_ended rows pending all quiet (word ∷ words) holds =
+    first_goes rows pending all quiet true word words holds tt ∙ one_ended word _ _ all quiet words (first_held rows pending all quiet true word holds)
 
-two : (a b : Text) (words : List Text) → list_all is_utf8 words ≡ true
-    → from (after_two a b false) words ≡ asked_of_values (option_map (λ vs. a ∷ b ∷ vs) (values false words))
-unfolding walk_fault defaults_fault
-two a b [] texts = refl
-two a b (word ∷ words) texts =
+-- and from one before it
+two : (a b : Text) (rows : List Row) (pending : Pending) (all quiet : Bool) (words : List Text) → list_all is_utf8 words ≡ true
+    → Holds rows pending (Some a) (Some b) all quiet → from (at (held_of rows pending) 3 false) words ≡ asked_of_values (a ∷ b ∷ values words) (options_of all quiet ++ options words)
+two a b rows pending all quiet [] texts holds = at_last rows pending (Some a) (Some b) all quiet 3 false holds ∙ no_more (a ∷ b ∷ []) all quiet
+two a b rows pending all quiet (word ∷ words) texts holds =
     let text = texts_after word words texts in
-    next_word _ _ 3 (λ vs. a ∷ b ∷ vs) word words text.0 (two_ended a b words)
-    (λ plain. third_plain a b word words plain ∙ none_of_three a b word (values false words))
+    next_word rows pending (Some a) (Some b) 3 (λ vs. a ∷ b ∷ vs) words (λ next all quiet. two a b next None all quiet words text.1) all quiet holds word text.0
+    (two_ended a b rows pending all quiet words holds) (third_fails rows pending all quiet false word words)
 
-one : (a : Text) (words : List Text) → list_all is_utf8 words ≡ true
-    → from (after_one a false) words ≡ asked_of_values (option_map (λ vs. a ∷ vs) (values false words))
-unfolding walk_fault defaults_fault
-one a [] texts = refl
-one a (word ∷ words) texts =
+one : (a : Text) (rows : List Row) (pending : Pending) (all quiet : Bool) (words : List Text) → list_all is_utf8 words ≡ true
+    → Holds rows pending (Some a) None all quiet → from (at (held_of rows pending) 2 false) words ≡ asked_of_values (a ∷ values words) (options_of all quiet ++ options words)
+one a rows pending all quiet [] texts holds = at_last rows pending (Some a) None all quiet 2 false holds
+one a rows pending all quiet (word ∷ words) texts holds =
     let text = texts_after word words texts in
-    next_word _ _ 2 (λ vs. a ∷ vs) word words text.0 (one_ended a words)
-    (λ plain. second_plain a word words plain ∙ (two a word words text.1 ∙ asks_more (λ vs. a ∷ vs) word (values false words)))
+    next_word rows pending (Some a) None 2 (λ vs. a ∷ vs) words (λ next all quiet. one a next None all quiet words text.1) all quiet holds word text.0
+    (one_ended a rows pending all quiet words holds)
+    (λ plain. second_goes rows pending all quiet false word a words holds plain ∙ two a word _ _ all quiet words text.1 (second_held rows pending all quiet false word a holds))
 
-none : (words : List Text) → list_all is_utf8 words ≡ true → from (start false) words ≡ asked_of_values (option_map (λ vs. vs) (values false words))
-unfolding walk_fault defaults_fault
-none [] texts = refl
-none (word ∷ words) texts =
+none : (rows : List Row) (pending : Pending) (all quiet : Bool) (words : List Text) → list_all is_utf8 words ≡ true
+    → Holds rows pending None None all quiet → from (at (held_of rows pending) 1 false) words ≡ asked_of_values (values words) (options_of all quiet ++ options words)
+none rows pending all quiet [] texts holds = at_last rows pending None None all quiet 1 false holds
+none rows pending all quiet (word ∷ words) texts holds =
     let text = texts_after word words texts in
-    next_word _ _ 1 (λ vs. vs) word words text.0 (none_ended words)
-    (λ plain. first_plain word words plain ∙ (one word words text.1 ∙ asks_more (λ vs. vs) word (values false words)))
+    next_word rows pending None None 1 (λ vs. vs) words (λ next all quiet. none next None all quiet words text.1) all quiet holds word text.0
+    (none_ended rows pending all quiet words holds)
+    (λ plain. first_goes rows pending all quiet false word words holds plain ∙ one word _ _ all quiet words text.1 (first_held rows pending all quiet false word holds))
 
-same : (o : Option (List Text)) → option_map (λ vs. vs) o ≡ o
-same None = refl
-same (Some vs) = refl
+nothing_yet : Holds [] None None None false false
+nothing_yet = record {
+  settles = refl;
+  has = record { command_is = refl; file_is = refl; all_is = refl; quiet_is = refl };
+}
 
-pub words_read : (name : Text) (words : List Text) → list_all is_utf8 words ≡ true → asked (name ∷ words) ≡ asked_of_values (values false words)
-words_read name words texts = from_start name words ∙ (none words texts ∙ ap asked_of_values (same (values false words)))
+pub words_read : (name : Text) (words : List Text) → list_all is_utf8 words ≡ true → asked (name ∷ words) ≡ asked_of_values (values words) (options words)
+words_read name words texts = from_start name words ∙ none [] None false false words texts nothing_yet
 
 not_end : (word : Text) → is_option word ≡ false → is_end word ≡ false
 not_end word not_option = go (is_end word) refl
@@ -326,8 +383,9 @@ not_end word not_option = go (is_end word) refl
     go false e = e
     go true e = absurd (true≢false (sym (ap is_option (end_is word e)) ∙ not_option))
 
-pub two_words : (name word file : Text) → is_option word ≡ false → is_option file ≡ false → asked (name ∷ word ∷ file ∷ []) ≡ asked_by word file
-unfolding walk_fault defaults_fault
+pub two_words : (name word file : Text) → is_option word ≡ false → is_option file ≡ false → asked (name ∷ word ∷ file ∷ []) ≡ asked_by word [] file
 two_words name word file first second =
-    from_start name (word ∷ file ∷ []) ∙ (first_plain word (file ∷ []) (plain_word word (not_end word first) first)
-    ∙ second_plain word file [] (plain_word file (not_end file second) second))
+    let first_holds = first_held [] None false false false word nothing_yet in
+    from_start name (word ∷ file ∷ []) ∙ (first_goes [] None false false false word (file ∷ []) nothing_yet (plain_word word (not_end word first) first)
+    ∙ (second_goes _ _ false false false file word [] first_holds (plain_word file (not_end file second) second)
+    ∙ at_last _ _ (Some word) (Some file) false false 3 false (second_held _ _ false false false file word first_holds)))

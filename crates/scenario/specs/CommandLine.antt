@@ -1,55 +1,105 @@
 -- What the words of the command line ask for.
-use Rattle.std.specs.Prelude.{◌≡◌, ℕ, Bool, ◌==◌, true, false, List, [], ◌∷◌, map, codes, string_bytes, Option, Some, None, option_map, Result, Ok, Err, if◌then◌else◌, Vec, String}
+use Rattle.std.specs.Prelude.{◌≡◌, ℕ, Bool, ◌==◌, ◌++◌, not, true, false, List, [], ◌∷◌, filter, map, codes, string_bytes, Option, Some, None, option_and_then, option_map, Result, Ok, Err, if◌then◌else◌, Vec, String}
 use Rattle.std.specs.declared.alloc.Global.{Global}
-use Rattle.std.specs.Option.{ok_or}
+use Rattle.std.specs.Option.{ok_or, option_map_or}
 use Rattle.std.specs.Str.{bytes_eq}
 use Rattle.std.specs.declared.io.ErrorKind.{ErrorKind}
 use Rattle.std.specs.declared.io.ErrorKind.TheVariants as kinds
 use Rattle.clap.specs.Words.{App, Row, Rule, fault_of, first_of, matches_of, new_app, new_rule, with_rule}
 use Rattle.clap.specs.Simple.{on_top}
 use Rattle.clap.specs.Walk.{is_empty}
+use Rattle.clap.specs.declared.builder.action.ArgAction.TheVariants.{SetTrue}
 use Rattle.files.specs.declared.fault.Fault.TheVariants.{NoMemory}
 use Rattle.scenario.specs.declared.command_line.Ask.{Ask}
 use Rattle.scenario.specs.declared.command_line.NoWords.{NoWords}
 use Rattle.scenario.specs.declared.command_line.NoWords.TheVariants as none
+use Rattle.scenario.specs.declared.detail.Detail.{Detail}
+use Rattle.scenario.specs.declared.detail.Detail.TheVariants.{Causes, Counts, Verdicts}
 use Rattle.scenario.specs.declared.trouble.Trouble.{Trouble}
 use Rattle.scenario.specs.declared.trouble.Trouble.TheVariants.{Usage, Refused}
 use Rattle.scenario.specs.declared.commands.Command.{Command}
+use Rattle.scenario.specs.declared.commands.Command.TheVariants.{Watch}
 use Rattle.scenario.specs.Command.{Ending, misused, no_memory}
 use Rattle.scenario.specs.Commands.{command_of}
 
--- a command, and the name of the file that it reads
+-- a command, how much it prints of a trace, and the name of the file that it reads
 pub record Asked : Type 0 where
   pub command : Command
+  pub detail : Detail
   pub file : List ℕ
 
 abbrev pub ask_view : Ask → Asked
-ask_view ask = record { command = ask.command; file = ask.file.now }
+ask_view ask = record { command = ask.command; detail = ask.detail; file = ask.file.now }
 
-abbrev pub asked_by : List ℕ → List ℕ → Option Asked
-asked_by word file =
-    option_map (λ command. record { command = command; file = file }) (command_of word)
+-- ---- options
+
+abbrev pub has_options : Command → Bool
+has_options Watch = true
+has_options _ = false
+
+abbrev pub watch_detail : List ℕ → Option Detail
+watch_detail option =
+    if bytes_eq option (codes "--all") then Some Verdicts
+    else if bytes_eq option (codes "--quiet") then Some Counts
+    else None
+
+-- no option, or one of `watch`
+abbrev pub detail_of : List (List ℕ) → Command → Option Detail
+detail_of [] command = Some Causes
+detail_of (option ∷ []) command = if has_options command then watch_detail option else None
+detail_of _ command = None
+
+abbrev pub asked_as : Command → Detail → List ℕ → Asked
+asked_as command detail file = record { command = command; detail = detail; file = file }
+
+-- the word of a command, options and a file
+abbrev pub asked_by : List ℕ → List (List ℕ) → List ℕ → Option Asked
+asked_by word options file = option_and_then (λ command.
+    option_map (λ detail. asked_as command detail file) (detail_of options command))
+    (command_of word)
 
 -- ---- what clap takes
 
 abbrev pub value : List ℕ → Rule
 value name = record (new_rule name) { required = true }
 
+abbrev pub flag : List ℕ → Rule
+flag name = record (new_rule name) { long = Some name; action = Some SetTrue }
+
 abbrev pub without_help : App → App
 without_help app = on_top (λ top. record top { disable_help_flag = true }) app
 
--- two values, COMMAND and FILE, which are both required, and no option: `--help` is none either
-abbrev pub svsim : App
-svsim = with_rule (with_rule (without_help (new_app (codes "svsim"))) (value (codes "COMMAND")))
+-- two values, COMMAND and FILE, which are both required
+abbrev pub with_values : App
+with_values = with_rule (with_rule (without_help (new_app (codes "svsim"))) (value (codes "COMMAND")))
     (value (codes "FILE"))
 
--- a command that is known, and FILE
-abbrev pub asked_of : Option (List ℕ) → Option (List ℕ) → Option Asked
-asked_of (Some word) (Some file) = asked_by word file
-asked_of _ _ = None
+-- and two flags, `--all` and `--quiet`; `--help` is none
+abbrev pub svsim : App
+svsim = with_rule (with_rule with_values (flag (codes "all"))) (flag (codes "quiet"))
+
+-- the value of a flag that was given
+abbrev pub is_set : Option (List ℕ) → Bool
+is_set value = option_map_or (λ text. bytes_eq text (codes "true")) value false
+
+-- the options by their flags
+abbrev pub options_of : Bool → Bool → List (List ℕ)
+options_of all quiet =
+    (if all then codes "--all" ∷ [] else []) ++ (if quiet then codes "--quiet" ∷ [] else [])
+
+-- COMMAND, options and FILE
+abbrev pub asked_with : Option (List ℕ) → List (List ℕ) → Option (List ℕ) → Option Asked
+asked_with (Some word) options (Some file) = asked_by word options file
+asked_with _ options _ = None
+
+-- by the value of each name
+abbrev pub asked_of : (List ℕ → Option (List ℕ)) → Option Asked
+asked_of named = asked_with (named (codes "COMMAND"))
+    (options_of (is_set (named (codes "all"))) (is_set (named (codes "quiet"))))
+    (named (codes "FILE"))
 
 abbrev pub asked_in_rows : List Row → Option Asked
-asked_in_rows rows = asked_of (first_of (codes "COMMAND") rows) (first_of (codes "FILE") rows)
+asked_in_rows rows = asked_of (λ name. first_of name rows)
 
 -- what is asked for by words of which clap refuses none; the first is the program's name
 abbrev pub asked : List (List ℕ) → Option Asked
@@ -67,18 +117,26 @@ is_option _ = false
 abbrev pub is_end : List ℕ → Bool
 is_end word = bytes_eq word (codes "--")
 
--- the words but the first `--`, if none is an option; behind `--`, none is (`ended`)
-abbrev pub values : Bool → List (List ℕ) → Option (List (List ℕ))
-values ended [] = Some []
-values true (word ∷ words) = option_map (λ rest. word ∷ rest) (values true words)
-values false (word ∷ words) = if is_end word then values true words
-    else if is_option word then None
-    else option_map (λ rest. word ∷ rest) (values false words)
+-- the words before the first `--`, and those behind it
+abbrev pub before_end : List (List ℕ) → List (List ℕ)
+before_end [] = []
+before_end (word ∷ words) = if is_end word then [] else word ∷ before_end words
 
--- two values, a command that is known and FILE
-abbrev pub asked_of_values : Option (List (List ℕ)) → Option Asked
-asked_of_values (Some (word ∷ file ∷ [])) = asked_by word file
-asked_of_values _ = None
+abbrev pub behind_end : List (List ℕ) → List (List ℕ)
+behind_end [] = []
+behind_end (word ∷ words) = if is_end word then words else behind_end words
+
+-- options stand before `--`, and each other word is a value
+abbrev pub options : List (List ℕ) → List (List ℕ)
+options words = filter is_option (before_end words)
+
+abbrev pub values : List (List ℕ) → List (List ℕ)
+values words = filter (λ word. not (is_option word)) (before_end words) ++ behind_end words
+
+-- two values, the word of a command and FILE
+abbrev pub asked_of_values : List (List ℕ) → List (List ℕ) → Option Asked
+asked_of_values (word ∷ file ∷ []) options = asked_by word options file
+asked_of_values _ options = None
 
 -- ---- what the code makes of them
 

@@ -1,5 +1,5 @@
 //! The words of the command line, and what is done for them.
-ghost use Rattle.std.specs.Prelude.{◌≡◌, ◌⊎◌, [], Option, IfOk, IfErr, codes, map, option_map, string_bytes};
+ghost use Rattle.std.specs.Prelude.{◌≡◌, ◌⊎◌, [], Option, IfOk, IfErr, map, option_map, string_bytes};
 ghost use Rattle.std.specs.Fn.{FnOnceReturnsAt};
 ghost use Rattle.std.specs.Io.KnownBytes.{Keeps};
 ghost use Rattle.std.specs.IoError.{error_kind};
@@ -8,9 +8,10 @@ ghost use Rattle.clap.specs.Words.{first_value, found_of};
 ghost use Rattle.scenario.specs.Command.{Reports, misused, no_memory};
 ghost use Rattle.scenario.specs.EndsOn.{EndsOn};
 ghost use Rattle.scenario.specs.Shown.{EndsUnasked, shown, shown_in};
-ghost use Rattle.scenario.specs.CommandLine.{AsksFor, ask_view, asked, asked_in, asked_of, no_words_by};
+ghost use Rattle.scenario.specs.CommandLine.{AsksFor, ask_view, asked, asked_in, asked_of, detail_of, has_options, is_set, no_words_by, options_of};
 
 use crate::commands::{Command, command_of};
+use crate::detail::Detail;
 use crate::live_program::live_command;
 use crate::output::write_whole;
 use crate::program::{DONE, command, report};
@@ -33,6 +34,8 @@ use thiserror::Error;
 #[derive(Clone, Copy, Debug)]
 pub struct Ask<'a> {
     pub command: Command,
+    /// What `watch` prints of its trace. No other command reads it.
+    pub detail: Detail,
     pub file: &'a str,
 }
 
@@ -65,10 +68,47 @@ impl From<io::Error> for NoWords {
     }
 }
 
-/// What the matches ask for: a command that is known, and FILE.
+/// Only `watch` has options.
+fn has_options(command: Command) -> bool
+    ensures { result ≡ has_options command }
+{
+    match command {
+        Command::Plain(_) => false,
+        Command::Live => false,
+        Command::Watch => true,
+    }
+}
+
+/// What is printed, by the flags that were given. Only `watch` has flags, and takes one of them.
+fn detail_of(all: bool, quiet: bool, command: Command) -> Option<Detail>
+    ensures { result ≡ detail_of (options_of all quiet) command }
+{
+    if !all && !quiet {
+        return Some(Detail::Causes);
+    }
+    if all && quiet || !has_options(command) {
+        return None;
+    }
+    if all {
+        Some(Detail::Verdicts)
+    } else {
+        Some(Detail::Counts)
+    }
+}
+
+/// The value of a flag is `true` if it was given.
+fn is_set(flag: Option<&str>) -> bool
+    ensures { result ≡ is_set (option_map (λ text. text.now) flag.entry) }
+{
+    match flag {
+        Some(text) => text == "true",
+        None => false,
+    }
+}
+
+/// What the matches ask for: a command that is known, its detail, and FILE.
 fn asked_of<'a>(matches: &ArgMatches<'a>) -> Option<Ask<'a>>
-    ensures { option_map ask_view result ≡ asked_of (first_value (found_of matches.now)
-        (codes "COMMAND")) (first_value (found_of matches.now) (codes "FILE")) }
+    ensures { option_map ask_view result ≡ asked_of (first_value (found_of matches.now)) }
 {
     let Some(word) = matches.get_str("COMMAND") else {
         return None;
@@ -79,10 +119,20 @@ fn asked_of<'a>(matches: &ArgMatches<'a>) -> Option<Ask<'a>>
     let Some(command) = command_of(word) else {
         return None;
     };
-    Some(Ask { command, file })
+    let all = is_set(matches.get_str("all"));
+    let quiet = is_set(matches.get_str("quiet"));
+    let Some(detail) = detail_of(all, quiet, command) else {
+        return None;
+    };
+    Some(Ask {
+        command,
+        detail,
+        file,
+    })
 }
 
-/// What the words ask for, if they ask for a command that is known and a FILE.
+/// What the words ask for, if they ask for a command that is known and a FILE, with options that the
+/// command takes.
 #[tactic(auto, using(crate::proofs::WordLemmas::asked_found))]
 fn look_up<'a>(alloc: Global, words: &'a [String]) -> Result<Option<Ask<'a>>, AllocError>
     ensures { IfOk result (λ ask. option_map ask_view ask ≡ asked (map string_bytes words.now)) }
@@ -100,8 +150,8 @@ fn look_up<'a>(alloc: Global, words: &'a [String]) -> Result<Option<Ask<'a>>, Al
 }
 
 /// What the words ask for, of which the first is the program's name: a command that is known and a
-/// FILE, neither of them an option. `--` ends the options. Refused with `Usage` if they ask for
-/// nothing, and with `NoMemory` if memory runs out.
+/// FILE, with no option, or with `--all` or `--quiet` of `watch`. `--` ends the options. Refused with
+/// `Usage` if they ask for nothing, and with `NoMemory` if memory runs out.
 pub fn ask_of<'a>(alloc: Global, words: &'a [String]) -> Result<Ask<'a>, Trouble>
     ensures { AsksFor (map string_bytes words.now) result }
 {

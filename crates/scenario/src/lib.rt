@@ -8,6 +8,7 @@
 
 mod command_line;
 mod commands;
+mod detail;
 mod ending_laws;
 mod finding;
 mod format_laws;
@@ -32,6 +33,7 @@ mod words;
 
 pub use command_line::{Ask, NoWords, answer_words, ask_of};
 pub use commands::{Command, Which};
+pub use detail::Detail;
 pub use ending_laws::{what_a_status_says, worked_faults, worked_reports};
 pub use files::{
     Fault, first_wrong_step, least_unknown_key, mode_is_sv39_by_default, worked_modes, worked_turns,

@@ -19,7 +19,7 @@ pub enum Trouble {
     TooLarge,
     /// A thread could not be started.
     NoThread,
-    /// The line of this number is none of a trace. Whether there is a verdict on the records before it.
+    /// A wrong line: its number, what is wrong, and whether there is a verdict on the records before it.
     Line {
         number: u64,
         fault: LineFault,

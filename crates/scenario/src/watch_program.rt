@@ -31,12 +31,12 @@ fn trouble_of(fault: ReportFault) -> Trouble
 }
 
 /// Does `watch` on the trace that `input` reads, and answers the status of the program: 0 without a
-/// verdict, 1 with some, 2 not read, 3 a line that is none of a trace and no verdict before it, 4 the
-/// output failed, 5 out of memory. The line of a verdict goes to `out` as soon as its record is read, and
-/// stays at 2 to 5. At a wrong line, whose status is 1 or 3, the counts so far come last. At 2 to 5 and
-/// at a wrong line one line goes to `err`, as far as it takes it; its own faults count for nothing. `file`
-/// is the trace's name in the line. A trace and its lines may have any length. A read that fails is
-/// `cannot read`, but for want of memory; one that a signal interrupts is tried again (`read_retrying`).
+/// verdict, 1 with some, 2 not read, 3 a wrong line and no verdict before it, 4 the output failed, 5 out
+/// of memory. The line of a verdict goes to `out` as soon as its record is read, and stays at 2 to 5. At
+/// a wrong line, whose status is 1 or 3, the counts so far come last. At 2 to 5 and at a wrong line one
+/// line goes to `err`, as far as it takes it; its own faults count for nothing. `file` is the trace's
+/// name in the line. A trace and its lines may have any length. A read that fails is `cannot read`, but
+/// for want of memory; one that a signal interrupts is tried again (`read_retrying`).
 pub fn watch_command<R: Read + Drop, W: Write, E: Write>(
     alloc: Global,
     file: &str,

@@ -29,4 +29,13 @@ returns c = record {
   help_word = refl;
   version = refl;
   short_version = refl;
+  all = refl;
+  quiet = refl;
+  all_first = refl;
+  all_twice = refl;
+  all_and_quiet = refl;
+  all_of_run = refl;
+  all_as_file = refl;
+  all_with_value = refl;
+  part_of_all = refl;
 }
