@@ -84,12 +84,14 @@ Status 0: nothing is wrong.
 ";
 
 const WATCH: &str = "\
-svsim watch TRACE reads what a kernel did to its page tables, its satp and its TLBs, and gives a verdict where a hart may still use a
-translation that the kernel takes for gone. TRACE is a file, or - for standard input.
+svsim watch TRACE reads what a kernel did to its page tables, its satp and its TLBs. A verdict is a point where a hart may still use a
+translation that the kernel takes for gone. The causes of the verdicts are printed: each with its first verdict, and all with their
+counts at the end. TRACE is a file, or - for standard input.
 
   svsim watch examples/watch/left-out-hart.trace
 
-It prints the causes of the verdicts; with --all a line for each verdict; with --quiet the last line alone.
+  --all    prints a line for each verdict in place of the causes
+  --quiet  prints the last line alone, which counts the verdicts
 
 docs/YOUR-KERNEL.md tells how to get a trace. Status 0: no verdict. 1: some. 3: a wrong line, and no verdict before it.
 ";

@@ -41,13 +41,21 @@ fn given_words<R: Env + AllocGlobal>(rt: &R) -> Result<Vec<String>, NoWords> {
     Ok(words.collect(rt.alloc())?)
 }
 
-/// Whether the first of the words after the program's name is `watch`.
+/// Whether a word is an option of `watch`.
+fn is_option(word: &str) -> bool {
+    word == "--all" || word == "--quiet"
+}
+
+/// Whether `watch` is the first of the words after the program's name that is none of its options.
 fn is_of_trace(words: &Result<Vec<String>, NoWords>) -> bool {
     match words {
-        Ok(words) => match words.get(1) {
-            Some(word) => word.as_str() == "watch",
-            None => false,
-        },
+        Ok(words) => {
+            let word = words
+                .iter()
+                .skip(1)
+                .find(|word| !is_option(word.as_str()));
+            word.is_some_and(|word| word.as_str() == "watch")
+        }
         Err(_) => false,
     }
 }
