@@ -19,7 +19,7 @@ use Rattle.watch_report.specs.declared.line_form.LineForm.{LineForm}
 use Rattle.watch_report.specs.declared.line_form.LineForm.TheVariants as forms
 use Rattle.watch_report.specs.Fields.{◌>>=◌, fields_of, hart_field, hexadecimal_field, number_field, only_if, optional_field}
 use Rattle.watch_report.specs.LineForms.{form_fields, form_of, kind_of}
-use Rattle.watch_report.specs.LineFaults.{any_machine, fault_at, fault_of, fields_fault, first_of, header_fault, kind_reason, name_reason, noted_fault, or_wrong, record_fault, unless, word_reason, words_fault}
+use Rattle.watch_report.specs.LineFaults.{any_machine, ends_at_space, fault_at, fault_of, fields_fault, first_of, header_fault, kind_reason, name_reason, noted_fault, or_wrong, record_fault, unless, word_reason, words_fault}
 use Rattle.watch_report.specs.Records.{asid_field, claim_begin_in, claim_end_in, fence_in, give_back_in, give_out_in, record_by, remote_begin_in, remote_end_in, satp_in, satp_write_in, small_asid, store_in, use_in}
 use Rattle.watch_report.specs.TraceLines.{LineText, comment, empty, mark_of, before_note, begins_note, hart_count_field, header_in, note_of, record_in, record_of, scheme_field}
 use Rattle.watch_report.specs.TraceText.{has_no_form}
@@ -69,16 +69,23 @@ empty_wrong machine field kinds.Optional = refl
 empty_wrong machine field kinds.Asid = refl
 empty_wrong machine field kinds.Satp = refl
 
+empty_bad : (machine : Header) (field : Field) (fields : List Field) (word : List ℕ) (words : List (List ℕ)) → ends_at_space word words ≡ true → (is_some (word_reason machine field word) || bad machine fields words) ≡ true
+empty_bad machine field fields [] words e = ap (λ b. b || bad machine fields words) (empty_wrong machine field (kind_of field))
+empty_bad machine field fields (byte ∷ rest) words e =
+    absurd (false≢true (sym (ap (λ b. b && (length words == 0)) (ne_eqb (length (byte ∷ rest)) 0 (λ z. omega (arith, z)))) ∙ e))
+
+-- where a test holds there is a fault, and else it goes by the rest
+early : (test : Bool) (one : LineFault) (rest : Option LineFault) (wrong : Bool) → (test ≡ true → wrong ≡ true) → is_some rest ≡ wrong → is_some (if test then Some one else rest) ≡ wrong
+early true one rest wrong h e = sym (h refl)
+early false one rest wrong h e = e
+
 words_bad : (machine : Header) (form : LineForm) (fields : List Field) (before : ℕ) (words : List (List ℕ)) → is_some (words_fault machine form fields before words) ≡ bad machine fields words
 words_bad machine form [] before [] = refl
 words_bad machine form [] before (word ∷ words) = refl
 words_bad machine form (field ∷ fields) before [] = refl
-words_bad machine form (field ∷ fields) before ([] ∷ []) = sym (ap (λ b. b || bad machine fields []) (empty_wrong machine field (kind_of field)))
-words_bad machine form (field ∷ fields) before ([] ∷ other ∷ words) =
-    some_first _ _ ∙ or_same _ _ _ _ (some_map (word_reason machine field []) _) (words_bad machine form fields (before + 0 + 1) (other ∷ words))
-words_bad machine form (field ∷ fields) before ((byte ∷ rest) ∷ words) =
-    let word : List ℕ = byte ∷ rest in
-    some_first _ _ ∙ or_same _ _ _ _ (some_map (word_reason machine field word) _) (words_bad machine form fields (before + length word + 1) words)
+words_bad machine form (field ∷ fields) before (word ∷ words) =
+    early (ends_at_space word words) _ _ _ (empty_bad machine field fields word words)
+    (some_first _ _ ∙ or_same _ _ _ _ (some_map (word_reason machine field word) _) (words_bad machine form fields (before + length word + 1) words))
 
 -- whether they are not as many as the fields
 abbrev uneven : List Field → List (List ℕ) → Bool

@@ -1,5 +1,5 @@
 -- The first place that passes a test, and the fields that spaces cut.
-use Rattle.std.proofs.Common.{◌≡◌, ℕ, ◌+◌, ◌-◌, ◌<◌, ◌≤◌, List, [], ◌∷◌, length, take, drop, nat_lt, Some, None, if◌then◌else◌, refl, subst, arith, length-drop}
+use Rattle.std.proofs.Common.{◌≡◌, ◌==◌, ℕ, ◌+◌, ◌-◌, ◌<◌, ◌≤◌, false, ne_eqb, List, [], ◌∷◌, length, take, drop, nat_lt, Some, None, if◌then◌else◌, refl, subst, arith, length-drop}
 use Rattle.std.specs.List.{position_or_len}
 use Rattle.std.specs.Option.{unwrap_or}
 use Rattle.std.proofs.lemmas.Bool.Decides.{nat_tests}
@@ -27,6 +27,9 @@ pub last_field : (text : List ℕ) (end : ℕ) → end ≡ position_or_len is_se
 last_field text end e most = slice_split_none is_separator text (λ i d less. fails_before_first is_separator text i d (omega (arith, e)))
 
 -- there is a field
+pub some_field : (text : List ℕ) → (length (fields_of text) == 0) ≡ false
+some_field text = ne_eqb (length (fields_of text)) 0 (λ e. omega (arith, e, length-slice_split is_separator text))
+
 more_than_one : (a : List ℕ) (fields : List (List ℕ)) (n : ℕ) → length fields ≡ n + 1 → one_field (a ∷ fields) ≡ None
 more_than_one a [] n e = absurd (omega (arith, e))
 more_than_one a (b ∷ fields) n e = refl

@@ -1,7 +1,7 @@
 //! Where a line has no form, and why.
 ghost use Rattle.std.specs.Prelude.{◌≡◌, ◌<◌, ◌≤◌, ◌+◌, ◌^◌, [], ◌∷◌, IfSome, length};
 ghost use Rattle.watch_report.specs.Fields.{fields_of};
-ghost use Rattle.watch_report.specs.LineFaults.{end_fault, fault_of, header_fault, noted_fault, record_fault, words_after, words_fault};
+ghost use Rattle.watch_report.specs.LineFaults.{end_fault, ends_at_space, fault_of, header_fault, noted_fault, record_fault, words_after, words_fault};
 ghost use Rattle.watch_report.specs.TraceLines.{before_note};
 
 use crate::fields::field_len;
@@ -41,6 +41,14 @@ fn end_fault(form: LineForm, fields: &[Field], before: usize) -> Option<LineFaul
     ))
 }
 
+/// Whether the line ends at a space, behind which the word should stand.
+#[tactic(auto, using(crate::proofs::Positions::some_field))]
+fn ends_at_space(word: &[u8], rest: Option<&[u8]>) -> bool
+    ensures { result ≡ ends_at_space word.now (words_after rest.entry (λ rest. rest.now)) }
+{
+    word.is_empty() && rest.is_none()
+}
+
 /// The first fault of the words of a text, before which so many bytes stand.
 fn words_fault(
     machine: Header,
@@ -56,7 +64,7 @@ fn words_fault(
     let Some((field, others)) = fields.split_first() else {
         return Some(wrong_word(before, word, LineReason::Excess(form)));
     };
-    if word.is_empty() && rest.is_none() {
+    if ends_at_space(word, rest) {
         return end_fault(form, fields, before + 1);
     }
     if let Some(fault) = word_fault(machine, *field, before, word) {

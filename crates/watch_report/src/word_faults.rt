@@ -186,8 +186,7 @@ fn unless(test: bool, reason: LineReason) -> Option<LineReason>
 
 /// Where the first tab of a word stands, or its length.
 fn first_tab(word: &[u8]) -> usize
-    ensures place { result ≡ first_tab word.now }
-    ensures within { result ≤ length word.now }
+    ensures { result ≡ first_tab word.now }
 {
     first_of(b'\t', word)
 }
@@ -198,11 +197,14 @@ pub fn wrong_word(before: usize, word: &[u8], reason: LineReason) -> LineFault
     ensures { result ≡ wrong_word before word.now reason }
 {
     if word.is_empty() {
-        fault_at(before.max(1), LineReason::Space)
-    } else if word[word.len() - 1] == b'\r' {
-        fault_at(before + word.len(), LineReason::CarriageReturn)
-    } else if first_tab(word) < word.len() {
-        fault_at(before + first_tab(word) + 1, LineReason::Tab)
+        return fault_at(before.max(1), LineReason::Space);
+    }
+    if word[word.len() - 1] == b'\r' {
+        return fault_at(before + word.len(), LineReason::CarriageReturn);
+    }
+    let tab = first_tab(word);
+    if tab < word.len() {
+        fault_at(before + tab + 1, LineReason::Tab)
     } else {
         fault_at(before + 1, reason)
     }
