@@ -8,12 +8,14 @@ pub mod RecordLemmas
 pub mod FirstBytes
 pub mod Hexadecimal
 pub mod CountLemmas
+mod CauseLemmas
 pub mod Spaced
 pub mod WorkedLines
 pub mod PrintedNumbers
 pub mod PrintedLines
 pub mod PrintedRecords
 pub mod WorkedWarnings
+pub mod WorkedCauseLines
 mod OutputLemmas
 mod LineLemmas
 mod VerdictLemmas

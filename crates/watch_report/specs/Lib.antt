@@ -5,10 +5,12 @@ pub mod Records
 pub mod ReadRecords
 pub mod TraceLines
 pub mod Warnings
+pub mod CauseLines
 pub mod RecordLines
 pub mod WorkedLines
 pub mod ReadBack
 pub mod WorkedWarnings
+pub mod WorkedCauseLines
 pub mod TraceText
 pub mod TextEnds
 pub mod NoteTexts

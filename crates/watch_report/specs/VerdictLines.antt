@@ -51,7 +51,7 @@ trigger_of trace _ = None
 abbrev pub printed_of : ℕ → Trigger → Warning → PrintedWarning
 printed_of number trigger w =
     record {
-      number = number;
+      line = number;
       hart = w.hart;
       root = w.root;
       entry = w.entry;
@@ -63,7 +63,7 @@ printed_of number trigger w =
 abbrev pub warning_lines : ℕ → Trigger → List Noted → List ℕ → List Warning → List ℕ
 warning_lines number trigger records by [] = []
 warning_lines number trigger records by (w ∷ warnings) =
-    warning_line (printed_of number trigger w) (note_at records w.stale_since) by
+    warning_line [] (printed_of number trigger w) (note_at records w.stale_since) by
     ++ warning_lines number trigger records by warnings
 
 abbrev pub lines_by : Option Trigger → ℕ → List Noted → List ℕ → List Warning → List ℕ

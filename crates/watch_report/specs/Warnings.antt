@@ -55,7 +55,7 @@ by_text by = if length by == 0 then [] else codes " by " ++ by
 abbrev pub verdict_of : Trigger → Verdict
 verdict_of (GivenBack frames) = Free
 verdict_of (GivenOut frames) = Reuse
-verdict_of (ClaimedSince number) = Claimed
+verdict_of (ClaimedSince line) = Claimed
 verdict_of (UsedAt address) = Used
 
 -- frames PPN+COUNT
@@ -66,34 +66,39 @@ frames_text frames =
 abbrev pub trigger_text : ℕ → Trigger → List ℕ
 trigger_text hart (GivenBack frames) = frames_text frames ++ codes " given back"
 trigger_text hart (GivenOut frames) = frames_text frames ++ codes " given out"
-trigger_text hart (ClaimedSince number) = codes "claimed clean since " ++ decimal number
+trigger_text hart (ClaimedSince line) = codes "claimed clean since line " ++ decimal line
 trigger_text hart (UsedAt address) =
     codes "hart " ++ decimal hart ++ codes " uses " ++ hexadecimal address
 
--- RECORD VERDICT hart
-abbrev pub verdict_part : Warning → List ℕ
-verdict_part w =
-    decimal w.number ++ codes " " ++ owner_prefix w.entry.global
-    ++ verdict_text (verdict_of w.trigger) ++ codes " hart "
+-- FILE:LINE:
+abbrev pub place_text : List ℕ → ℕ → List ℕ
+place_text file line = file ++ codes ":" ++ decimal line ++ codes ": "
+
+-- FILE:LINE: VERDICT hart
+abbrev pub verdict_part : List ℕ → Warning → List ℕ
+verdict_part file w =
+    place_text file w.line ++ owner_prefix w.entry.global ++ verdict_text (verdict_of w.trigger)
+    ++ codes " hart "
 
 -- H may hold page VA+SIZE -> PPN FLAGS asid A root
 abbrev pub holder_part : Warning → List ℕ
 holder_part w =
     decimal w.hart ++ codes " may hold page " ++ entry_text w.entry ++ codes " root "
 
--- R, stale since RECORD by TEXT; with the note of the record that made the translation stale
+-- R, stale since line L by TEXT; with the note of the record that made the translation stale
 abbrev pub since_part : Warning → List ℕ → List ℕ
 since_part w stale_by =
-    scoped_text w.entry.global w.root ++ codes ", stale since " ++ decimal w.since
+    scoped_text w.entry.global w.root ++ codes ", stale since line " ++ decimal w.since
     ++ by_text stale_by ++ codes "; "
 
 -- frames PPN+COUNT given back by TEXT, with the note of the record of the verdict
 abbrev pub trigger_part : Warning → List ℕ → List ℕ
 trigger_part w by = trigger_text w.hart w.trigger ++ by_text by ++ codes "\n"
 
-abbrev pub warning_line : Warning → List ℕ → List ℕ → List ℕ
-warning_line w stale_by by =
-    verdict_part w ++ holder_part w ++ since_part w stale_by ++ trigger_part w by
+-- of a trace in this file
+abbrev pub warning_line : List ℕ → Warning → List ℕ → List ℕ → List ℕ
+warning_line file w stale_by by =
+    verdict_part file w ++ holder_part w ++ since_part w stale_by ++ trigger_part w by
 
 -- ---- the last line
 

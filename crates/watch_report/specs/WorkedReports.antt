@@ -114,8 +114,8 @@ given = (warning_of Used ∷ []) ∷ (warning_of Free ∷ []) ∷ [] ∷ []
 abbrev pub lines_of_verdicts : Type 0
 lines_of_verdicts =
     verdict_lines records given
-    ≡ codes "2 free hart 1 may hold page 1000+1000 -> 100 rw-u- asid 1 root 80000, stale since 1 by unmap; frames 100+1 given back by free_page\n"
-    ++ codes "3 use hart 1 may hold page 1000+1000 -> 100 rw-u- asid 1 root 80000, stale since 1 by unmap; hart 1 uses 1abc\n"
+    ≡ codes ":2: free hart 1 may hold page 1000+1000 -> 100 rw-u- asid 1 root 80000, stale since line 1 by unmap; frames 100+1 given back by free_page\n"
+    ++ codes ":3: use hart 1 may hold page 1000+1000 -> 100 rw-u- asid 1 root 80000, stale since line 1 by unmap; hart 1 uses 1abc\n"
 
 abbrev pub last_line : Type 0
 last_line = summary_of records given ≡ codes "3 records, 2 verdicts: free 1, use 1\n"

@@ -34,10 +34,10 @@ kernel_page = record {
   flags = record { 0 = 0x2A };
 }
 
--- hart 11 may hold the page, of the root 0x80000, stale since record 6
+-- hart 11 may hold the page, of the root 0x80000, stale since line 6
 abbrev pub warning_of : ℕ → Entry → Trigger → Warning
-warning_of number entry trigger = record {
-  number = number;
+warning_of line entry trigger = record {
+  line = line;
   hart = 11;
   root = 0x80000;
   entry = entry;
@@ -50,32 +50,32 @@ frames_at first count = record { first = first; count = count }
 
 abbrev pub given_back : Type 0
 given_back =
-    warning_line (warning_of 18 user_page (GivenBack (frames_at 0x100 1))) (codes "unmap")
+    warning_line (codes "boot.watch") (warning_of 18 user_page (GivenBack (frames_at 0x100 1))) (codes "unmap")
     (codes "free_page")
-    ≡ codes "18 free hart 11 may hold page 1000+1000 -> 100 rw-u- asid a root 80000, stale since 6 by unmap; frames 100+1 given back by free_page\n"
+    ≡ codes "boot.watch:18: free hart 11 may hold page 1000+1000 -> 100 rw-u- asid a root 80000, stale since line 6 by unmap; frames 100+1 given back by free_page\n"
 
 abbrev pub given_out : Type 0
 given_out =
-    warning_line (warning_of 20 user_page (GivenOut (frames_at 0xFF 10))) [] []
-    ≡ codes "20 reuse hart 11 may hold page 1000+1000 -> 100 rw-u- asid a root 80000, stale since 6; frames ff+a given out\n"
+    warning_line (codes "-") (warning_of 20 user_page (GivenOut (frames_at 0xFF 10))) [] []
+    ≡ codes "-:20: reuse hart 11 may hold page 1000+1000 -> 100 rw-u- asid a root 80000, stale since line 6; frames ff+a given out\n"
 
 -- a page that is global by a pointer above its leaf, which has no G
 abbrev pub below_a_global_pointer : Type 0
 below_a_global_pointer =
-    warning_line
+    warning_line (codes "a b")
     (warning_of 22 (record kernel_page { flags = record { 0 = 0x0A } }) (GivenOut (frames_at 0x80200 1)))
     [] []
-    ≡ codes "22 kernel-reuse hart 11 may hold page ffffffc000200000+200000 -> 80200 r-x-g asid any root any, stale since 6; frames 80200+1 given out\n"
+    ≡ codes "a b:22: kernel-reuse hart 11 may hold page ffffffc000200000+200000 -> 80200 r-x-g asid any root any, stale since line 6; frames 80200+1 given out\n"
 
 abbrev pub claimed : Type 0
 claimed =
-    warning_line (warning_of 21 kernel_page (ClaimedSince 17)) [] (codes "flush of 2 pages")
-    ≡ codes "21 kernel-claim hart 11 may hold page ffffffc000200000+200000 -> 80200 r-x-g asid any root any, stale since 6; claimed clean since 17 by flush of 2 pages\n"
+    warning_line (codes "boot.watch") (warning_of 21 kernel_page (ClaimedSince 17)) [] (codes "flush of 2 pages")
+    ≡ codes "boot.watch:21: kernel-claim hart 11 may hold page ffffffc000200000+200000 -> 80200 r-x-g asid any root any, stale since line 6; claimed clean since line 17 by flush of 2 pages\n"
 
 abbrev pub used : Type 0
 used =
-    warning_line (warning_of 22 user_page (UsedAt 0x1ABC)) (codes "unmap") []
-    ≡ codes "22 use hart 11 may hold page 1000+1000 -> 100 rw-u- asid a root 80000, stale since 6 by unmap; hart 11 uses 1abc\n"
+    warning_line (codes "traces/boot") (warning_of 22 user_page (UsedAt 0x1ABC)) (codes "unmap") []
+    ≡ codes "traces/boot:22: use hart 11 may hold page 1000+1000 -> 100 rw-u- asid a root 80000, stale since line 6 by unmap; hart 11 uses 1abc\n"
 
 -- ---- the last line
 

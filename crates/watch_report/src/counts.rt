@@ -49,7 +49,7 @@ fn is_none_yet(is_first: bool, count: &Count) -> bool
 }
 
 /// Adds the counts that are not 0, with commas between them.
-fn push_counts(text: &mut Vec<u8>, counts: &[Count]) -> Result<(), AllocError>
+pub fn push_counts(text: &mut Vec<u8>, counts: &[Count]) -> Result<(), AllocError>
     ensures ok { OnOk result (text.new.items ≡ text.old.items
         ++ verdict_counts_text true (map printed_count counts.now)) }
 {
@@ -120,7 +120,7 @@ impl VerdictCounts {
 }
 
 /// The word behind a count: `one` behind 1, else `more`.
-fn word_of(is_one: bool, one: &'static [u8], more: &'static [u8]) -> &'static [u8]
+pub fn word_of(is_one: bool, one: &'static [u8], more: &'static [u8]) -> &'static [u8]
     ensures { result.now ≡ (if is_one then one.now else more.now) }
 {
     if is_one { one } else { more }

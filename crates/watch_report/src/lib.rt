@@ -6,6 +6,7 @@
 #![tactic(auto)]
 
 mod bytes;
+mod cause_line;
 mod counting;
 mod counts;
 mod emit;
@@ -32,10 +33,12 @@ mod trigger;
 mod verdicts;
 mod warning;
 mod word_faults;
+mod worked_cause_lines;
 mod worked_faults;
 mod worked_lines;
 mod worked_reports;
 
+pub use cause_line::{NumberedTally, in_order, push_block, push_total};
 pub use counts::{VerdictCounts, push_summary};
 pub use emit::push_record;
 pub use fault::ReportFault;
@@ -48,6 +51,7 @@ pub use line_form::{Field, LineForm};
 pub use report::report_trace;
 pub use retry::{read_retrying, write_retrying};
 pub use warning::{Trigger, Warning, push_warning};
+pub use worked_cause_lines::{worked_causes, worked_orders, worked_totals};
 pub use worked_faults::{
     worked_fault_texts, worked_formed_lines, worked_header_faults, worked_line_faults,
 };

@@ -13,7 +13,7 @@ fn printed(number: u64, trigger: Trigger, warning: &Warning) -> crate::warning::
     ensures { result ≡ printed_of number trigger warning.now }
 {
     crate::warning::Warning {
-        number,
+        line: number,
         hart: warning.hart,
         root: warning.root,
         entry: warning.entry,
@@ -37,7 +37,7 @@ fn push_warnings(
 {
     for warning in warnings {
         let stale_by = notes.of(warning.stale_since);
-        push_warning(text, &printed(number, trigger, warning), stale_by, by)?;
+        push_warning(text, b"", &printed(number, trigger, warning), stale_by, by)?;
     }
     Ok(())
 }

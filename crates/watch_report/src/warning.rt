@@ -1,6 +1,6 @@
 //! The line of a verdict.
 ghost use Rattle.std.specs.Prelude.{◌≡◌, ◌++◌, OnOk, codes};
-ghost use Rattle.watch_report.specs.Warnings.{by_text, trigger_part, trigger_text, entry_text, frames_text, holder_part, letter_or_dash, letters_text, owner_prefix, scoped_text, since_part, verdict_of, verdict_part, verdict_text, warning_line};
+ghost use Rattle.watch_report.specs.Warnings.{by_text, trigger_part, trigger_text, entry_text, frames_text, holder_part, letter_or_dash, letters_text, owner_prefix, place_text, scoped_text, since_part, verdict_of, verdict_part, verdict_text, warning_line};
 
 use crate::push::{push, push_decimal, push_hexadecimal, push_number};
 use pte::PteFlags;
@@ -15,25 +15,25 @@ pub enum Trigger {
     GivenBack(Frames),
     /// It gave these frames out.
     GivenOut(Frames),
-    /// It ended a claim that had begun at the record of this number.
+    /// It ended a claim that had begun at this line.
     ClaimedSince(u64),
     /// The hart of the verdict accessed this virtual address.
     UsedAt(u64),
 }
 
-/// A verdict: a hart may hold a stale translation that the kernel took for gone. Records are
-/// numbered from 1, the first after the header.
+/// A verdict: a hart may hold a stale translation that the kernel took for gone. Lines of the file
+/// are numbered from 1, that of the header.
 #[derive(Clone, Copy, PartialEq, Eq, Debug)]
 pub struct Warning {
-    /// The record at which the verdict is given.
-    pub number: u64,
+    /// The line of the record at which the verdict is given.
+    pub line: u64,
     /// The hart that may hold the translation.
     pub hart: u8,
     /// The PPN of the root table that it came from; what is global is of any.
     pub root: u64,
     /// The translation.
     pub entry: Entry,
-    /// The record that made it stale.
+    /// The line of the record that made it stale.
     pub since: u64,
     /// Why the kernel took it for gone.
     pub trigger: Trigger,
@@ -54,7 +54,7 @@ impl Trigger {
 }
 
 /// The word of a verdict.
-fn verdict_word(verdict: Verdict) -> &'static [u8]
+pub fn verdict_word(verdict: Verdict) -> &'static [u8]
     ensures { result.now ≡ verdict_text verdict }
 {
     match verdict {
@@ -143,9 +143,9 @@ fn push_trigger(text: &mut Vec<u8>, hart: u8, trigger: Trigger) -> Result<(), Al
     match trigger {
         Trigger::GivenBack(frames) => push_frames(text, frames, b" given back"),
         Trigger::GivenOut(frames) => push_frames(text, frames, b" given out"),
-        Trigger::ClaimedSince(number) => {
-            push(text, b"claimed clean since ")?;
-            push_decimal(text, number)
+        Trigger::ClaimedSince(line) => {
+            push(text, b"claimed clean since line ")?;
+            push_decimal(text, line)
         }
         Trigger::UsedAt(address) => {
             push(text, b"hart ")?;
@@ -155,12 +155,22 @@ fn push_trigger(text: &mut Vec<u8>, hart: u8, trigger: Trigger) -> Result<(), Al
     }
 }
 
-/// Adds the number of the record, and the verdict.
-fn push_verdict(text: &mut Vec<u8>, warning: &Warning) -> Result<(), AllocError>
-    ensures ok { OnOk result (text.new.items ≡ text.old.items ++ verdict_part warning.now) }
+/// Adds the file and the line.
+pub fn push_place(text: &mut Vec<u8>, file: &[u8], line: u64) -> Result<(), AllocError>
+    ensures ok { OnOk result (text.new.items ≡ text.old.items ++ place_text file.now line) }
 {
-    push_decimal(text, warning.number)?;
-    push(text, b" ")?;
+    push(text, file)?;
+    push(text, b":")?;
+    push_decimal(text, line)?;
+    push(text, b": ")
+}
+
+/// Adds the place of the record, and the verdict.
+fn push_verdict(text: &mut Vec<u8>, file: &[u8], warning: &Warning) -> Result<(), AllocError>
+    ensures ok { OnOk result (text.new.items ≡ text.old.items
+        ++ verdict_part file.now warning.now) }
+{
+    push_place(text, file, warning.line)?;
     push(text, owner_prefix(warning.entry.global))?;
     push(text, verdict_word(warning.trigger.verdict()))?;
     push(text, b" hart ")
@@ -182,7 +192,7 @@ fn push_since(text: &mut Vec<u8>, warning: &Warning, stale_by: &[u8]) -> Result<
         ++ since_part warning.now stale_by.now) }
 {
     push_scoped(text, warning.entry.global, warning.root)?;
-    push(text, b", stale since ")?;
+    push(text, b", stale since line ")?;
     push_decimal(text, warning.since)?;
     push_by(text, stale_by)?;
     push(text, b"; ")
@@ -197,19 +207,20 @@ fn push_end(text: &mut Vec<u8>, warning: &Warning, by: &[u8]) -> Result<(), Allo
     push(text, b"\n")
 }
 
-/// Adds the line of a verdict, with the notes of the record that made the translation stale and of
-/// the record of the verdict, each empty for none. `AllocError`: there was no room; the part of the
-/// line that had room stays.
+/// Adds the line of a verdict on a trace in the file, with the notes of the record that made the
+/// translation stale and of the record of the verdict, each empty for none. `AllocError`: there was
+/// no room; the part of the line that had room stays.
 pub fn push_warning(
     text: &mut Vec<u8>,
+    file: &[u8],
     warning: &Warning,
     stale_by: &[u8],
     by: &[u8],
 ) -> Result<(), AllocError>
     ensures ok { OnOk result (text.new.items ≡ text.old.items
-        ++ warning_line warning.now stale_by.now by.now) }
+        ++ warning_line file.now warning.now stale_by.now by.now) }
 {
-    push_verdict(text, warning)?;
+    push_verdict(text, file, warning)?;
     push_holder(text, warning)?;
     push_since(text, warning, stale_by)?;
     push_end(text, warning, by)

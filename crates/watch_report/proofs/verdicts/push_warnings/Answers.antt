@@ -1,4 +1,4 @@
-use Rattle.std.proofs.Common.{rules, ◌≡◌, ◌<◌, ◌+◌, ◌∙◌, ◌++◌, ◌∷◌, ℕ, List, length, drop, ap, sym, append_assoc}
+use Rattle.std.proofs.Common.{rules, ◌≡◌, ◌<◌, ◌+◌, ◌∙◌, ◌++◌, ◌∷◌, ℕ, List, [], length, drop, ap, sym, append_assoc}
 use Rattle.std.proofs.lemmas.List.{drop_more}
 use Rattle.watch_engine.specs.declared.warning.Warning.{Warning}
 use Rattle.watch_report.specs.Warnings.{warning_line}
@@ -15,8 +15,8 @@ loop-warning-preserved c = λ records are.
     let before : List ℕ = c.loop-warning.text.items in
     let lines : List Warning → List ℕ = warning_lines c.args.number c.args.trigger records c.args.by.now in
     let rest : List ℕ = lines (drop (at + 1) warnings) in
-    let line : List ℕ = warning_line (printed_of c.args.number c.args.trigger w) (note_at records w.stale_since) c.args.by.now in
+    let line : List ℕ = warning_line [] (printed_of c.args.number c.args.trigger w) (note_at records w.stale_since) c.args.by.now in
     let one : c.push_warning.new.text.items ≡ before ++ line =
-    c.in_ok-push_warning.ensures.ok ∙ (λ j. before ++ warning_line (c.printed.ensures j) (c.of-stale_by.ensures records are j) c.args.by.now) in
+    c.in_ok-push_warning.ensures.ok ∙ (λ j. before ++ warning_line [] (c.printed.ensures j) (c.of-stale_by.ensures records are j) c.args.by.now) in
     let next : drop at warnings ≡ w ∷ drop (at + 1) warnings = drop_more warnings at w within ∙ ap (λ (v : Warning). v ∷ drop (at + 1) warnings) (sym c.warning-item.is) in
     ap (λ t. t ++ rest) one ∙ (append_assoc before line rest ∙ (ap (λ (ws : List Warning). before ++ lines ws) (sym next) ∙ c.loop-warning.invariant records are))

@@ -1,0 +1,96 @@
+-- What is printed of the causes of verdicts, and in which order at the end.
+use Rattle.std.specs.Prelude.{ℕ, Bool, true, false, ◌+◌, nat_lt, not, if◌then◌else◌, codes, List, [], ◌∷◌, ◌++◌}
+use Rattle.std.specs.Fmt.{decimal}
+use Rattle.watch_causes.specs.declared.finding.Cause.{Cause}
+use Rattle.watch_causes.specs.declared.reason.Reason.{Reason}
+use Rattle.watch_causes.specs.declared.reason.Reason.TheVariants.{NoFlush, NoFence, OtherHarts, OtherSpaces, OtherPages, NotDone}
+use Rattle.watch_causes.specs.declared.tally.Tally.{Tally}
+use Rattle.watch_causes.specs.declared.tally.Verdicts.{Verdicts}
+use Rattle.watch_report.specs.declared.cause_line.NumberedTally.{NumberedTally}
+use Rattle.watch_report.specs.declared.warning.Warning.{Warning}
+use Rattle.watch_report.specs.Warnings.{counted_text, place_text, verdict_counts_text, verdict_text, warning_line}
+
+-- what is global is the kernel's
+abbrev pub owner_text : Bool → List ℕ
+owner_text global = if global then codes "kernel" else codes "user"
+
+abbrev pub reason_text : Reason → List ℕ
+reason_text NoFlush = codes "no flush of the page had begun"
+reason_text NoFence = codes "its flush asked for no fence"
+reason_text OtherHarts = codes "its flush asked for no fence on this hart"
+reason_text OtherSpaces =
+    codes "its flush fenced another ASID, or some ASID while the page is global"
+reason_text OtherPages = codes "its flush fenced other pages"
+reason_text NotDone = codes "its flush asked for a fence that was not done yet"
+
+-- OWNER pages, first VERDICT: REASON
+abbrev pub cause_text : Cause → List ℕ
+cause_text cause =
+    owner_text cause.global ++ codes " pages, first " ++ verdict_text cause.first ++ codes ": "
+    ++ reason_text cause.reason
+
+-- cause N: OWNER pages, first VERDICT: REASON
+abbrev pub cause_part : ℕ → Cause → List ℕ
+cause_part number cause = codes "cause " ++ decimal number ++ codes ": " ++ cause_text cause
+
+-- the line of the first verdict of a cause, and a line of the cause
+abbrev pub block_text : List ℕ → ℕ → Cause → Warning → List ℕ → List ℕ → List ℕ
+block_text file number cause w stale_by by =
+    warning_line file w stale_by by ++ codes "  " ++ cause_part number cause ++ codes "\n"
+
+-- ---- its counts
+
+-- in the order in which they are printed
+abbrev pub tally_counts : Verdicts → List (List ℕ × ℕ)
+tally_counts n =
+    (codes "free", n.free) ∷ (codes "reuse", n.reuse) ∷ (codes "claim", n.claimed)
+    ∷ (codes "use", n.used) ∷ []
+
+-- how many findings, and how many verdicts of each kind
+abbrev pub findings_part : Tally → List ℕ
+findings_part t =
+    codes "; " ++ counted_text t.findings (codes " finding: ") (codes " findings: ")
+    ++ verdict_counts_text true (tally_counts t.verdicts)
+
+-- FILE:LINE: cause N: OWNER pages, first VERDICT: REASON; FINDINGS: COUNTS
+abbrev pub total_line : List ℕ → ℕ → NumberedTally → List ℕ
+total_line file line one =
+    place_text file line ++ cause_part one.number one.tally.cause ++ findings_part one.tally
+    ++ codes "\n"
+
+-- ---- the order of the causes at the end
+
+-- what passes a test comes before what fails it; what is alike there is ordered otherwise
+abbrev pub by_test : Bool → Bool → Bool → Bool
+by_test a b otherwise = if a then (if b then otherwise else true) else (if b then false else otherwise)
+
+abbrev pub is_of_users : NumberedTally → Bool
+is_of_users one = not one.tally.cause.global
+
+abbrev pub has_reuse : NumberedTally → Bool
+has_reuse one = nat_lt 0 one.tally.verdicts.reuse
+
+-- users' pages before the kernel's; then a cause with a `reuse` before one without; then more findings
+-- before fewer
+abbrev pub comes_before : NumberedTally → NumberedTally → Bool
+comes_before a b =
+    by_test (is_of_users a) (is_of_users b)
+    (by_test (has_reuse a) (has_reuse b) (nat_lt b.tally.findings a.tally.findings))
+
+-- a cause that began before these, which are in order: it is put behind those that come before it
+abbrev pub placed : NumberedTally → List NumberedTally → List NumberedTally
+placed one [] = one ∷ []
+placed one (next ∷ ones) =
+    if comes_before next one then next ∷ placed one ones else one ∷ next ∷ ones
+
+abbrev pub numbered : ℕ → Tally → NumberedTally
+numbered number t = record { number = number; tally = t }
+
+-- the first of these has this number
+abbrev pub ordered_from : ℕ → List Tally → List NumberedTally
+ordered_from number [] = []
+ordered_from number (t ∷ tallies) = placed (numbered number t) (ordered_from (number + 1) tallies)
+
+-- the tallies, which come in the order in which their causes began, in the order of the end
+abbrev pub ordered : List Tally → List NumberedTally
+ordered tallies = ordered_from 1 tallies

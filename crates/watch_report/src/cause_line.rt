@@ -1,0 +1,198 @@
+//! The lines of causes.
+ghost use Rattle.std.specs.Prelude.{◌≡◌, ◌≤◌, ◌++◌, IfOk, OnOk, length, not};
+ghost use Rattle.std.specs.List.{position_or_len};
+ghost use Rattle.watch_report.specs.CauseLines.{block_text, by_test, cause_part, cause_text, comes_before, findings_part, has_reuse, ordered, owner_text, placed, reason_text, tally_counts, total_line};
+ghost use Rattle.watch_report.specs.Warnings.{counted_text, verdict_counts_text};
+
+use crate::counts::{Count, push_counts, word_of};
+use crate::push::{push, push_decimal};
+use crate::warning::{Warning, push_place, push_warning, verdict_word};
+use std::alloc::{AllocError, Global};
+use watch_causes::{Cause, Reason, Tally, Verdicts};
+
+/// What is counted of a cause, with its number: 1 for the cause that began first.
+#[derive(Clone, Copy, PartialEq, Eq, Debug)]
+pub struct NumberedTally {
+    pub number: u64,
+    pub tally: Tally,
+}
+
+fn owner_word(global: bool) -> &'static [u8]
+    ensures { result.now ≡ owner_text global }
+{
+    if global { b"kernel" } else { b"user" }
+}
+
+fn reason_words(reason: Reason) -> &'static [u8]
+    ensures { result.now ≡ reason_text reason }
+{
+    match reason {
+        Reason::NoFlush => b"no flush of the page had begun",
+        Reason::NoFence => b"its flush asked for no fence",
+        Reason::OtherHarts => b"its flush asked for no fence on this hart",
+        Reason::OtherSpaces => {
+            b"its flush fenced another ASID, or some ASID while the page is global"
+        }
+        Reason::OtherPages => b"its flush fenced other pages",
+        Reason::NotDone => b"its flush asked for a fence that was not done yet",
+    }
+}
+
+/// Adds whose pages the cause is of, its first verdict and its reason.
+fn push_cause(text: &mut Vec<u8>, cause: &Cause) -> Result<(), AllocError>
+    ensures ok { OnOk result (text.new.items ≡ text.old.items ++ cause_text cause.now) }
+{
+    push(text, owner_word(cause.global))?;
+    push(text, b" pages, first ")?;
+    push(text, verdict_word(cause.first))?;
+    push(text, b": ")?;
+    push(text, reason_words(cause.reason))
+}
+
+/// Adds the number of the cause, and the cause.
+fn push_numbered(text: &mut Vec<u8>, number: u64, cause: &Cause) -> Result<(), AllocError>
+    ensures ok { OnOk result (text.new.items ≡ text.old.items ++ cause_part number cause.now) }
+{
+    push(text, b"cause ")?;
+    push_decimal(text, number)?;
+    push(text, b": ")?;
+    push_cause(text, cause)
+}
+
+/// Adds the line of the verdict that begins a cause, as `push_warning` does, and a line of the cause.
+/// `AllocError`: there was no room; the part that had room stays.
+pub fn push_block(
+    text: &mut Vec<u8>,
+    file: &[u8],
+    number: u64,
+    cause: &Cause,
+    warning: &Warning,
+    stale_by: &[u8],
+    by: &[u8],
+) -> Result<(), AllocError>
+    ensures ok { OnOk result (text.new.items ≡ text.old.items
+        ++ block_text file.now number cause.now warning.now stale_by.now by.now) }
+{
+    push_warning(text, file, warning, stale_by, by)?;
+    push(text, b"  ")?;
+    push_numbered(text, number, cause)?;
+    push(text, b"\n")
+}
+
+/// Adds the counts of the verdicts that are not 0.
+fn push_verdicts(text: &mut Vec<u8>, verdicts: &Verdicts) -> Result<(), AllocError>
+    ensures ok { OnOk result (text.new.items ≡ text.old.items
+        ++ verdict_counts_text true (tally_counts verdicts.now)) }
+{
+    let counts = [
+        Count {
+            name: b"free",
+            number: verdicts.free,
+        },
+        Count {
+            name: b"reuse",
+            number: verdicts.reuse,
+        },
+        Count {
+            name: b"claim",
+            number: verdicts.claimed,
+        },
+        Count {
+            name: b"use",
+            number: verdicts.used,
+        },
+    ];
+    push_counts(text, &counts)
+}
+
+/// Adds how many findings the cause has, and their verdicts.
+fn push_findings(text: &mut Vec<u8>, tally: &Tally) -> Result<(), AllocError>
+    ensures ok { OnOk result (text.new.items ≡ text.old.items ++ findings_part tally.now) }
+{
+    push(text, b"; ")?;
+    push_decimal(text, tally.findings)?;
+    push(
+        text,
+        word_of(tally.findings == 1, b" finding: ", b" findings: "),
+    )?;
+    push_verdicts(text, &tally.verdicts)
+}
+
+/// Adds the line of what is counted of a cause, at a line of the file. `AllocError`: there was no
+/// room; the part of the line that had room stays.
+pub fn push_total(
+    text: &mut Vec<u8>,
+    file: &[u8],
+    line: u64,
+    one: &NumberedTally,
+) -> Result<(), AllocError>
+    ensures ok { OnOk result (text.new.items ≡ text.old.items
+        ++ total_line file.now line one.now) }
+{
+    push_place(text, file, line)?;
+    push_numbered(text, one.number, &one.tally.cause)?;
+    push_findings(text, &one.tally)?;
+    push(text, b"\n")
+}
+
+fn by_test(a: bool, b: bool, otherwise: bool) -> bool
+    ensures { result ≡ by_test a b otherwise }
+{
+    if a == b { otherwise } else { a }
+}
+
+fn has_reuse(one: &NumberedTally) -> bool
+    ensures { result ≡ has_reuse one.now }
+{
+    one.tally.verdicts.reuse > 0
+}
+
+fn comes_before(a: &NumberedTally, b: &NumberedTally) -> bool
+    ensures { result ≡ comes_before a.now b.now }
+{
+    let otherwise = by_test(
+        has_reuse(a),
+        has_reuse(b),
+        a.tally.findings > b.tally.findings,
+    );
+    by_test(!a.tally.cause.global, !b.tally.cause.global, otherwise)
+}
+
+/// How many stand in front of the first that does not come before this one.
+fn place_of(ones: &[NumberedTally], one: &NumberedTally) -> usize
+    ensures place { result ≡ position_or_len (λ next. not (comes_before next one.now)) ones.now }
+    ensures within { result ≤ length ones.now }
+{
+    let place = ones.iter().position(|next| !comes_before(next, one));
+    place.unwrap_or(ones.len())
+}
+
+/// Puts it in its place among these, which are in order and began later.
+fn place(ones: &mut Vec<NumberedTally>, one: NumberedTally) -> Result<(), AllocError>
+    ensures { OnOk result (ones.new.items ≡ placed one ones.old.items) }
+{
+    let place = place_of(ones.as_slice(), &one);
+    Ok(ones.insert(place, one)?)
+}
+
+/// The tallies, which come in the order in which their causes began, each with its number, in the order
+/// of the end: users' pages before the kernel's, then causes with a `reuse` before others, then those
+/// with more findings before those with fewer, and else as they came.
+pub fn in_order(alloc: Global, tallies: &[Tally]) -> Result<Vec<NumberedTally>, AllocError>
+    ensures { IfOk result (λ ones. ones.items ≡ ordered tallies.now) }
+{
+    let mut ones = Vec::new(alloc);
+    let mut number = tallies.len();
+    'last: while number > 0 {
+        let tally = tallies[number - 1];
+        place(
+            &mut ones,
+            NumberedTally {
+                number: number as u64,
+                tally,
+            },
+        )?;
+        number -= 1;
+    }
+    Ok(ones)
+}
