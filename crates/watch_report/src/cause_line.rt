@@ -1,6 +1,5 @@
 //! The lines of causes.
-ghost use Rattle.std.specs.Prelude.{◌≡◌, ◌≤◌, ◌++◌, IfOk, OnOk, length, not};
-ghost use Rattle.std.specs.List.{position_or_len};
+ghost use Rattle.std.specs.Prelude.{◌≡◌, ◌++◌, IfOk, OnOk, not, position, true};
 ghost use Rattle.watch_report.specs.CauseLines.{block_text, by_test, cause_part, cause_text, comes_before, findings_part, has_reuse, ordered, owner_text, placed, reason_text, tally_counts, total_line};
 ghost use Rattle.watch_report.specs.Warnings.{counted_text, verdict_counts_text};
 
@@ -158,21 +157,21 @@ fn comes_before(a: &NumberedTally, b: &NumberedTally) -> bool
     by_test(!a.tally.cause.global, !b.tally.cause.global, otherwise)
 }
 
-/// How many stand in front of the first that does not come before this one.
-fn place_of(ones: &[NumberedTally], one: &NumberedTally) -> usize
-    ensures place { result ≡ position_or_len (λ next. not (comes_before next one.now)) ones.now }
-    ensures within { result ≤ length ones.now }
+/// The place of the first that does not come before this one.
+fn place_of(ones: &[NumberedTally], one: &NumberedTally) -> Option<usize>
+    ensures { result ≡ position (λ next. not (comes_before next one.now)) ones.now }
 {
-    let place = ones.iter().position(|next| !comes_before(next, one));
-    place.unwrap_or(ones.len())
+    ones.iter().position(|next| !comes_before(next, one))
 }
 
 /// Puts it in its place among these, which are in order and began later.
 fn place(ones: &mut Vec<NumberedTally>, one: NumberedTally) -> Result<(), AllocError>
     ensures { OnOk result (ones.new.items ≡ placed one ones.old.items) }
 {
-    let place = place_of(ones.as_slice(), &one);
-    Ok(ones.insert(place, one)?)
+    match place_of(ones.as_slice(), &one) {
+        Some(at) => Ok(ones.insert(at, one)?),
+        None => Ok(ones.push(one)?),
+    }
 }
 
 /// The tallies, which come in the order in which their causes began, each with its number, in the order
