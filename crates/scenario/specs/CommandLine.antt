@@ -13,8 +13,8 @@ use Rattle.files.specs.declared.fault.Fault.TheVariants.{NoMemory}
 use Rattle.scenario.specs.declared.command_line.Ask.{Ask}
 use Rattle.scenario.specs.declared.command_line.NoWords.{NoWords}
 use Rattle.scenario.specs.declared.command_line.NoWords.TheVariants as none
-use Rattle.scenario.specs.declared.detail.Detail.{Detail}
-use Rattle.scenario.specs.declared.detail.Detail.TheVariants.{Causes, Counts, Verdicts}
+use Rattle.watch_report.specs.declared.detail.Detail.{Detail}
+use Rattle.watch_report.specs.declared.detail.Detail.TheVariants.{Causes, Counts, Verdicts}
 use Rattle.scenario.specs.declared.trouble.Trouble.{Trouble}
 use Rattle.scenario.specs.declared.trouble.Trouble.TheVariants.{Usage, Refused}
 use Rattle.scenario.specs.declared.commands.Command.{Command}

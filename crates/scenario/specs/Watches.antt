@@ -2,6 +2,7 @@
 use Rattle.std.specs.Prelude.{ℕ, Bool, List, Option, Result, Ok, Err, if◌then◌else◌}
 use Rattle.scenario.specs.Command.{Ending, Reports, done, no_memory, output_failed, unreadable, warned, wrong_line}
 use Rattle.watch_report.specs.Ending.{Ends}
+use Rattle.watch_report.specs.Reports.{Told}
 use Rattle.watch_report.specs.declared.fault.ReportFault.{ReportFault}
 use Rattle.watch_report.specs.declared.fault.ReportFault.TheVariants as faults
 
@@ -13,10 +14,10 @@ ending_of_report (Err (faults.Line number fault some)) = wrong_line number fault
 ending_of_report (Err faults.Output) = output_failed
 ending_of_report (Err faults.NoMemory) = no_memory
 
--- how it ends on a trace of this text: one report gives the output, the status and the line on
--- standard error
-pub record EndsWatch (file text : List ℕ) (status : ℕ)
+-- how it ends on a trace of this text, of which this is told: one report gives the output, the status
+-- and the line on standard error
+pub record EndsWatch (told : Told) (text : List ℕ) (status : ℕ)
     (out_old out_new err_old err_new : Option (List ℕ)) : Type 0 where
   pub reported : Result Bool ReportFault
-  pub leaves : Ends text reported out_old out_new
-  pub reports : Reports file (ending_of_report reported) status err_old err_new
+  pub leaves : Ends told text reported out_old out_new
+  pub reports : Reports told.file (ending_of_report reported) status err_old err_new

@@ -11,13 +11,12 @@ ghost use Rattle.scenario.specs.Shown.{EndsUnasked, shown, shown_in};
 ghost use Rattle.scenario.specs.CommandLine.{AsksFor, ask_view, asked, asked_in, asked_of, detail_of, has_options, is_set, no_words_by, options_of};
 
 use crate::commands::{Command, command_of};
-use crate::detail::Detail;
 use crate::live_program::live_command;
 use crate::output::write_whole;
 use crate::program::{DONE, command, report};
 use crate::shown::shown_of;
 use crate::trouble::Trouble;
-use crate::watch_program::watch_command;
+use crate::watch_program::watch_command_with;
 use crate::words::matches_of;
 use clap::ArgMatches;
 use clap::error::ErrorKind;
@@ -29,6 +28,7 @@ use std::io::{Read, Write};
 use std::sync::Wait;
 use std::thread::Threads;
 use thiserror::Error;
+use watch_report::Detail;
 
 /// What the words ask for, and the file that it reads.
 #[derive(Clone, Copy, Debug)]
@@ -173,8 +173,8 @@ fn on_file<T: Threads + Wait + Sync, R: Read + Drop, W: Write, E: Write, G: Gate
     err: &mut E,
     gate: &G,
 ) -> u8
-    ensures { EndsOn R.remaining ask.entry.command ask.entry.file.now input result (W.contents out.old)
-        (W.contents out.new) (E.contents err.old) (E.contents err.new) }
+    ensures { EndsOn R.remaining ask.entry.command ask.entry.detail ask.entry.file.now input result
+        (W.contents out.old) (W.contents out.new) (E.contents err.old) (E.contents err.new) }
 {
     let Some(mut reader) = input else {
         return report(alloc, ask.file, &Trouble::Unreadable, err);
@@ -182,7 +182,7 @@ fn on_file<T: Threads + Wait + Sync, R: Read + Drop, W: Write, E: Write, G: Gate
     match ask.command {
         Command::Plain(which) => command(alloc, which, ask.file, &mut reader, out, err),
         Command::Live => live_command(rt, alloc, ask.file, &mut reader, out, err, gate),
-        Command::Watch => watch_command(alloc, ask.file, reader, out, err),
+        Command::Watch => watch_command_with(alloc, ask.detail, ask.file, reader, out, err),
     }
 }
 
@@ -230,8 +230,8 @@ pub fn answer_words<
     requires { O.IsAlwaysCallable reader_of }
     ensures asked { IfOk (asked_in words) (λ ask. ((input : Option R)
         × FnOnceReturnsAt O.FnOnce reader_of ask.file input
-        × EndsOn R.remaining ask.command ask.file input result (W.contents out.old) (W.contents out.new)
-        (E.contents err.old) (E.contents err.new))
+        × EndsOn R.remaining ask.command ask.detail ask.file input result (W.contents out.old)
+        (W.contents out.new) (E.contents err.old) (E.contents err.new))
         ⊎ (Reports [] no_memory result (E.contents err.old) (E.contents err.new)
         × Keeps (W.contents out.old) (W.contents out.new))) }
     ensures unasked { IfErr (asked_in words) (λ ending. EndsUnasked (shown_in words) ending result

@@ -8,7 +8,6 @@
 
 mod command_line;
 mod commands;
-mod detail;
 mod ending_laws;
 mod finding;
 mod format_laws;
@@ -33,7 +32,6 @@ mod words;
 
 pub use command_line::{Ask, NoWords, answer_words, ask_of};
 pub use commands::{Command, Which};
-pub use detail::Detail;
 pub use ending_laws::{what_a_status_says, worked_faults, worked_reports};
 pub use files::{
     Fault, first_wrong_step, least_unknown_key, mode_is_sv39_by_default, worked_modes, worked_turns,
@@ -53,5 +51,6 @@ pub use steps::StepFault;
 pub use system::start;
 pub use texts::{run_text, walk_text};
 pub use trouble::Trouble;
-pub use watch_program::watch_command;
+pub use watch_program::{watch_command, watch_command_with};
+pub use watch_report::Detail;
 pub use word_laws::{words_are_read, worked_words};

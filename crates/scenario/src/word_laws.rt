@@ -5,7 +5,7 @@ ghost use Rattle.std.specs.List.{list_all};
 ghost use Rattle.std.specs.Str.{is_utf8};
 ghost use Rattle.scenario.specs.declared.commands.Command.TheVariants.{Live, Plain, Watch};
 ghost use Rattle.scenario.specs.declared.commands.Which.TheVariants.{Draw, Run, Show, Stale, Walk};
-ghost use Rattle.scenario.specs.declared.detail.Detail.TheVariants.{Causes, Counts, Verdicts};
+ghost use Rattle.watch_report.specs.declared.detail.Detail.TheVariants.{Causes, Counts, Verdicts};
 ghost use Rattle.scenario.specs.CommandLine.{asked, asked_by, asked_of_values, is_option, options, values};
 
 /// What `clap` takes is what can be read off the words: two values, and before a `--` no option, or

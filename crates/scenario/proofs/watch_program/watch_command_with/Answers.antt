@@ -2,7 +2,7 @@ use Rattle.std.proofs.Common.{ℕ, List, Option, Ok, true, false, refl}
 use Rattle.std.proofs.KnownBytes.{Appends-nil}
 use Rattle.scenario.specs.Command.{Reports, warned}
 use Rattle.scenario.proofs.FileLemmas.{nothing_reported}
-use Rattle.scenario.proofs.watch_program.watch_command.Goals as goal
+use Rattle.scenario.proofs.watch_program.watch_command_with.Goals as goal
 
 -- of verdicts nothing is written on standard error
 warned_reported : (file : List ℕ) (err : Option (List ℕ)) → Reports file warned 1 err err
