@@ -1,5 +1,5 @@
 -- The place of a cause among others.
-use Rattle.std.proofs.Common.{◌≡◌, ℕ, suc, ◌+◌, ◌≤◌, Bool, true, false, List, [], ◌∷◌, ◌++◌, Option, None, Some, cond, length, not, ap, sym, ◌∙◌, refl, arith, ap₂}
+use Rattle.std.proofs.Common.{◌≡◌, ℕ, suc, ◌+◌, ◌≤◌, Bool, true, false, List, [], ◌∷◌, ◌++◌, None, Some, cond, length, not, ap, sym, ◌∙◌, refl, arith, ap₂}
 use Rattle.std.specs.Prelude.{nat_lt, position}
 use Rattle.std.specs.List.{insert, position_or_len}
 use Rattle.std.proofs.lemmas.Bool.{ltb-false}

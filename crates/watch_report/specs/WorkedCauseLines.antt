@@ -1,5 +1,5 @@
 -- Worked lines of causes, and their order at the end: what was worked out by hand.
-use Rattle.std.specs.Prelude.{◌≡◌, ℕ, Bool, true, false, codes, List, [], ◌∷◌, ◌++◌}
+use Rattle.std.specs.Prelude.{◌≡◌, ℕ, Bool, true, false, codes, [], ◌∷◌, ◌++◌}
 use Rattle.watch.specs.declared.trace.Verdict.{Verdict}
 use Rattle.watch.specs.declared.trace.Verdict.TheVariants.{Free, Reuse, Claimed, Used}
 use Rattle.watch.specs.WorkedTraces.{page, writable}
@@ -10,7 +10,6 @@ use Rattle.watch_causes.specs.declared.reason.Reason.TheVariants.{NoFlush, NoFen
 use Rattle.watch_causes.specs.declared.tally.Tally.{Tally}
 use Rattle.watch_causes.specs.declared.tally.Verdicts.{Verdicts}
 use Rattle.watch_causes.specs.WorkedCauses.{counts}
-use Rattle.watch_report.specs.declared.cause_line.NumberedTally.{NumberedTally}
 use Rattle.watch_report.specs.declared.warning.Trigger.TheVariants.{GivenBack, ClaimedSince}
 use Rattle.watch_report.specs.CauseLines.{block_text, cause_text, numbered, ordered, total_line}
 use Rattle.watch_report.specs.WorkedWarnings.{frames_at, kernel_page, user_page, warning_of}

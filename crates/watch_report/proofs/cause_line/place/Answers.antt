@@ -1,4 +1,4 @@
-use Rattle.std.proofs.Common.{◌≡◌, ◌∙◌, ap, sym, Some, None, not}
+use Rattle.std.proofs.Common.{◌∙◌, ap, sym, not}
 use Rattle.std.specs.Prelude.{position}
 use Rattle.watch_report.specs.CauseLines.{comes_before}
 use Rattle.watch_report.proofs.CauseLemmas.{placed_at_end, placed_in_front}
