@@ -1,5 +1,5 @@
 -- What the words of the command line ask for.
-use Rattle.std.specs.Prelude.{◌≡◌, ℕ, Bool, ◌==◌, ◌++◌, not, true, false, List, [], ◌∷◌, filter, map, codes, string_bytes, Option, Some, None, option_and_then, option_map, Result, Ok, Err, if◌then◌else◌, Vec, String}
+use Rattle.std.specs.Prelude.{◌≡◌, ℕ, Bool, ◌==◌, ◌++◌, not, true, false, List, [], ◌∷◌, filter, fold, map, codes, string_bytes, Option, Some, None, option_and_then, option_map, Result, Ok, Err, if◌then◌else◌, Vec, String}
 use Rattle.std.specs.declared.alloc.Global.{Global}
 use Rattle.std.specs.Option.{ok_or, option_map_or}
 use Rattle.std.specs.Str.{bytes_eq}
@@ -69,16 +69,12 @@ flag name = record (new_rule name) { long = Some name; action = Some SetTrue }
 abbrev pub without_help : App → App
 without_help app = on_top (λ top. record top { disable_help_flag = true }) app
 
--- two values, COMMAND and FILE, which are both required
-abbrev pub with_values : App
-with_values = with_rule (with_rule (without_help (new_app (codes "svsim"))) (value (codes "COMMAND")))
-    (value (codes "FILE"))
-
--- and two flags, `--all` and `--quiet`; `--help` is none
+-- two values, COMMAND and FILE, which are both required, and two flags; `--help` is none
 abbrev pub svsim : App
-svsim = with_rule (with_rule with_values (flag (codes "all"))) (flag (codes "quiet"))
+svsim = fold with_rule (without_help (new_app (codes "svsim")))
+    (value (codes "COMMAND") ∷ value (codes "FILE") ∷ flag (codes "all") ∷ flag (codes "quiet") ∷ [])
 
--- the value of a flag that was given
+-- the flag with this value was given
 abbrev pub is_set : Option (List ℕ) → Bool
 is_set value = option_map_or (λ text. bytes_eq text (codes "true")) value false
 

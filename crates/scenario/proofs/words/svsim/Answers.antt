@@ -1,0 +1,13 @@
+use Rattle.std.proofs.Common.{◌≡◌, ◌∙◌, ap₂, codes, rules}
+use Rattle.std.proofs.lemmas.Result.{IfOk-weaker}
+use Rattle.clap.specs.Words.{app_of, new_app, with_rule}
+use Rattle.scenario.specs.CommandLine.{without_help}
+use Rattle.scenario.proofs.words.svsim.Goals as goal
+
+pub returns : goal.returns
+returns c =
+    let is : app_of c.disable_help_flag-program.result ≡ without_help (new_app (codes "svsim")) = search rules in
+    let with_command = c.in_ok-arg.ensures.shape c.value-command.ensures.local ∙ ap₂ with_rule is c.value-command.ensures.rule in
+    let with_file = c.in_ok-arg-2.ensures.shape c.value-file.ensures.local ∙ ap₂ with_rule with_command c.value-file.ensures.rule in
+    let with_all = c.in_ok-arg-3.ensures.shape c.flag-all.ensures.local ∙ ap₂ with_rule with_file c.flag-all.ensures.rule in
+    IfOk-weaker c.arg-4.result _ _ (λ program added. added.shape c.flag-quiet.ensures.local ∙ ap₂ with_rule with_all c.flag-quiet.ensures.rule) c.arg-4.ensures
