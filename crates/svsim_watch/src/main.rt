@@ -1,13 +1,14 @@
-//! The command `watch` of `svsim` alone: `svsim_watch TRACE`.
+//! The command `watch` of `svsim` alone: `svsim_watch [--all|--quiet] TRACE`.
 //!
 //! The wrapper `./svsim` builds it without a proof, which takes a third of the time of the whole
-//! program. What it writes, and the statuses 0, 1 and 3, are those of `svsim watch`. Where the trace
-//! can't be read, written or held in memory it answers 6, and the wrapper builds the whole program.
+//! program. What it writes, and the statuses 0, 1 and 3, are those of `svsim watch`. At other words,
+//! and where the trace can't be read, written or held in memory, it answers 6, and the wrapper builds
+//! the whole program.
 #![tactic(auto)]
 
 use std::process::ExitCode;
 use std::{env, fs};
-use watch_report::{ReportFault, report_trace};
+use watch_report::{Detail, ReportFault, report_trace};
 
 /// No verdict.
 const DONE: u8 = 0;
@@ -21,12 +22,37 @@ const REFUSED: u8 = 3;
 /// The whole program has to answer.
 const NO_ANSWER: u8 = 6;
 
-/// Reports the trace that the first word names, and answers the status.
+/// What an option asks for.
+fn detail_of(option: &str) -> Option<Detail> {
+    if option == "--all" {
+        Some(Detail::Verdicts)
+    } else if option == "--quiet" {
+        Some(Detail::Counts)
+    } else {
+        None
+    }
+}
+
+/// What the words ask for, and of which trace.
+fn asked(words: &[String]) -> Option<(Detail, &str)> {
+    let (detail, file) = match words.len() {
+        2 => (Detail::Causes, words[1].as_str()),
+        3 => (detail_of(words[1].as_str())?, words[2].as_str()),
+        _ => return None,
+    };
+    if file.starts_with('-') {
+        None
+    } else {
+        Some((detail, file))
+    }
+}
+
+/// Reports the trace that the words name, and answers the status.
 fn answer(rt: &HostRuntime) -> Option<u8> {
     let words: Vec<String> = env::args(rt).ok()?.collect(rt.alloc()).ok()?;
-    let file = words.get(1)?.as_str();
+    let (detail, file) = asked(words.as_slice())?;
     let trace = fs::open(rt, file).ok()?;
-    match report_trace(rt.alloc(), trace, &mut rt.stdout()) {
+    match report_trace(rt.alloc(), detail, file, trace, &mut rt.stdout()) {
         Ok(false) => Some(DONE),
         Ok(true) => Some(WARNED),
         Err(

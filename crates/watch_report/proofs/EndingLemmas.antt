@@ -17,40 +17,40 @@ use Rattle.watch_report.specs.Ending.{Ends, EndsBy, IsLine, Tells}
 use Rattle.watch_report.specs.Output.{WritesAll, WritesFront}
 use Rattle.watch_report.specs.Reading.{FailsAtEnd, FailsAtLine, IsReadFault, Stands, report_fault_of}
 use Rattle.watch_report.specs.TraceText.{Noted, body_of, faulty_line, has_no_form, header_of, lines_of, records_of, said_first, with_record}
-use Rattle.watch_report.specs.VerdictLines.{VerdictText, WholeText, verdict_lines}
+use Rattle.watch_report.specs.Reports.{Told, VerdictText, WholeText, told_text}
 use Rattle.watch_report.proofs.ReadLemmas.{AreTaken, IsText, all_formed, more_taken, records_of_all, records_of_front, stops}
 
 -- ---- within the lines after the header
 
 -- of these lines all is written
-pub written_of : (start out : Option (List ℕ)) (header : Header) (records : List Noted) (r : Reading) → r.header ≡ header → Stands start out records r → WritesAll (VerdictText header.scheme records) start out
-written_of start out header records r e at =
-    subst (λ (h : Header). WritesAll (VerdictText h.scheme records) start out) e (verdict_lines records at.given, (at.given, at.seen.are, refl), at.written)
+pub written_of : (told : Told) (start out : Option (List ℕ)) (header : Header) (records : List Noted) (r : Reading) → r.header ≡ header → Stands told start out records r → WritesAll (VerdictText told header.scheme records) start out
+written_of told start out header records r e at =
+    subst (λ (h : Header). WritesAll (VerdictText told h.scheme records) start out) e (told_text told r.header.scheme records at.given, (at.given, at.seen.are, refl), at.written)
 
-pub ends_within : (header : Header) (read tail : List (List ℕ)) (records : List Noted) (start out : Option (List ℕ)) → AreTaken header read records → WritesAll (VerdictText header.scheme records) start out
-    → EndsBy (Ok header) (read ++ tail) (Err reported.NoMemory) start out
-ends_within header read tail records start out at written =
-    (read, tail, refl, subst (λ (r : List Noted). WritesAll (VerdictText header.scheme r) start out) (sym (records_of_all header read records at)) written)
+pub ends_within : (told : Told) (header : Header) (read tail : List (List ℕ)) (records : List Noted) (start out : Option (List ℕ)) → AreTaken header read records → WritesAll (VerdictText told header.scheme records) start out
+    → EndsBy told (Ok header) (read ++ tail) (Err reported.NoMemory) start out
+ends_within told header read tail records start out at written =
+    (read, tail, refl, subst (λ (r : List Noted). WritesAll (VerdictText told header.scheme r) start out) (sym (records_of_all header read records at)) written)
 
 -- at a line that was not read
-pub ends_unread : (fault : ReadingFault) (header : Header) (read tail : List (List ℕ)) (records : List Noted) (start out : Option (List ℕ)) → IsReadFault fault → AreTaken header read records
-    → WritesAll (VerdictText header.scheme records) start out → EndsBy (Ok header) (read ++ tail) (Err (report_fault_of fault)) start out
-ends_unread Unreadable header read tail records start out is at written = ends_within header read tail records start out at written
-ends_unread Output header read tail records start out is at written = absurd is
-ends_unread NoMemory header read tail records start out is at written = ends_within header read tail records start out at written
+pub ends_unread : (told : Told) (fault : ReadingFault) (header : Header) (read tail : List (List ℕ)) (records : List Noted) (start out : Option (List ℕ)) → IsReadFault fault → AreTaken header read records
+    → WritesAll (VerdictText told header.scheme records) start out → EndsBy told (Ok header) (read ++ tail) (Err (report_fault_of fault)) start out
+ends_unread told Unreadable header read tail records start out is at written = ends_within told header read tail records start out at written
+ends_unread told Output header read tail records start out is at written = absurd is
+ends_unread told NoMemory header read tail records start out is at written = ends_within told header read tail records start out at written
 
 -- at a line that was read
-pub ends_at_line : (fault : ReadingFault) (header : Header) (read tail : List (List ℕ)) (line : List ℕ) (records : List Noted) (start out : Option (List ℕ))
-    → AreTaken header read records → FailsAtLine fault header line records start out → EndsBy (Ok header) (read ++ line ∷ tail) (Err (report_fault_of fault)) start out
-ends_at_line Unreadable header read tail line records start out at fails = absurd fails
-ends_at_line Output header read tail line records start out at fails =
+pub ends_at_line : (told : Told) (fault : ReadingFault) (header : Header) (number : ℕ) (read tail : List (List ℕ)) (line : List ℕ) (records : List Noted) (start out : Option (List ℕ)) → number ≡ length read + 2
+    → AreTaken header read records → FailsAtLine fault told header number line records start out → EndsBy told (Ok header) (read ++ line ∷ tail) (Err (report_fault_of fault)) start out
+ends_at_line told Unreadable header number read tail line records start out e at fails = absurd fails
+ends_at_line told Output header number read tail line records start out e at fails =
     inl (
       read ++ line ∷ [],
       tail,
       append_assoc read (line ∷ []) tail,
-      subst (λ (r : List Noted). WritesFront (VerdictText header.scheme r) start out) (sym (records_of_all header (read ++ line ∷ []) _ (more_taken header read line records at fails.0))) fails.1,
+      subst (λ (r : List Noted). WritesFront (VerdictText told header.scheme r) start out) (sym (records_of_all header (read ++ line ∷ []) _ (more_taken header read number line records e at fails.0))) fails.1,
     )
-ends_at_line NoMemory header read tail line records start out at fails = ends_within header read (line ∷ tail) records start out at fails
+ends_at_line told NoMemory header number read tail line records start out e at fails = ends_within told header read (line ∷ tail) records start out at fails
 
 -- ---- at a line that has no form
 
@@ -66,32 +66,32 @@ line_at : (read tail : List (List ℕ)) (line : List ℕ) (place : ℕ) → plac
 line_at read tail line place e = get_or_at read line tail [] place (sym e)
 
 -- the lines before it have these records
-front_told : (header : Header) (read tail : List (List ℕ)) (line : List ℕ) (records : List Noted) (Told : List Noted → Type 0) → AreTaken header read records → has_no_form header line ≡ true → Told records
-    → Told (records_of header (read ++ line ∷ tail))
-front_told header read tail line records Told at none told =
-    subst Told (sym (records_of_front header read (line ∷ tail) records at (stops (has_no_form header) line tail none))) told
+front_told : (header : Header) (read tail : List (List ℕ)) (line : List ℕ) (records : List Noted) (Says : List Noted → Type 0) → AreTaken header read records → has_no_form header line ≡ true → Says records
+    → Says (records_of header (read ++ line ∷ tail))
+front_told header read tail line records Says at none says =
+    subst Says (sym (records_of_front header read (line ∷ tail) records at (stops (has_no_form header) line tail none))) says
 
-pub ends_at_fault : (r : ReportFault) (header : Header) (number : ℕ) (read tail : List (List ℕ)) (line : List ℕ) (records : List Noted) (some : Bool) (start out : Option (List ℕ)) → number ≡ length read + 2
-    → AreTaken header read records → has_no_form header line ≡ true → IsLine number (fault_of header line) some r → WritesAll (WholeText header.scheme records some) start out
-    → EndsBy (Ok header) (read ++ line ∷ tail) (Err r) start out
-ends_at_fault reported.Unreadable header number read tail line records some start out e at none is written = absurd is
-ends_at_fault reported.Output header number read tail line records some start out e at none is written = absurd is
-ends_at_fault reported.NoMemory header number read tail line records some start out e at none is written = absurd is
-ends_at_fault (reported.Line n fault warned) header number read tail line records some start out e at none is written =
+pub ends_at_fault : (told : Told) (r : ReportFault) (header : Header) (number : ℕ) (read tail : List (List ℕ)) (line : List ℕ) (records : List Noted) (some : Bool) (start out : Option (List ℕ)) → number ≡ length read + 2
+    → AreTaken header read records → has_no_form header line ≡ true → IsLine number (fault_of header line) some r → WritesAll (WholeText told header.scheme records some) start out
+    → EndsBy told (Ok header) (read ++ line ∷ tail) (Err r) start out
+ends_at_fault told reported.Unreadable header number read tail line records some start out e at none is written = absurd is
+ends_at_fault told reported.Output header number read tail line records some start out e at none is written = absurd is
+ends_at_fault told reported.NoMemory header number read tail line records some start out e at none is written = absurd is
+ends_at_fault told (reported.Line n fault warned) header number read tail line records some start out e at none is written =
     let place : n - 2 ≡ length read = omega (arith, e, is.0) in (
       faulty_at header read tail line records at none ∙ ap Some (sym (is.0 ∙ e)),
       ap (fault_of header) (line_at read tail line (n - 2) place) ∙ is.1,
-      front_told header read tail line records (λ (r : List Noted). WritesAll (WholeText header.scheme r warned) start out) at none
-          (subst (λ (b : Bool). WritesAll (WholeText header.scheme records b) start out) (sym is.2) written),
+      front_told header read tail line records (λ (r : List Noted). WritesAll (WholeText told header.scheme r warned) start out) at none
+          (subst (λ (b : Bool). WritesAll (WholeText told header.scheme records b) start out) (sym is.2) written),
     )
 
 -- and the last line was not written
-pub ends_unfinished : (fault : ReadingFault) (header : Header) (read tail : List (List ℕ)) (line : List ℕ) (records : List Noted) (start out : Option (List ℕ))
-    → AreTaken header read records → has_no_form header line ≡ true → FailsAtEnd fault header.scheme records start out → EndsBy (Ok header) (read ++ line ∷ tail) (Err (report_fault_of fault)) start out
-ends_unfinished Unreadable header read tail line records start out at none fails = absurd fails
-ends_unfinished Output header read tail line records start out at none fails =
-    inr (fails.0, front_told header read tail line records (λ (r : List Noted). WritesFront (WholeText header.scheme r fails.0) start out) at none fails.1)
-ends_unfinished NoMemory header read tail line records start out at none fails = ends_within header read (line ∷ tail) records start out at fails
+pub ends_unfinished : (told : Told) (fault : ReadingFault) (header : Header) (read tail : List (List ℕ)) (line : List ℕ) (records : List Noted) (start out : Option (List ℕ))
+    → AreTaken header read records → has_no_form header line ≡ true → FailsAtEnd fault told header.scheme records start out → EndsBy told (Ok header) (read ++ line ∷ tail) (Err (report_fault_of fault)) start out
+ends_unfinished told Unreadable header read tail line records start out at none fails = absurd fails
+ends_unfinished told Output header read tail line records start out at none fails =
+    inr (fails.0, front_told header read tail line records (λ (r : List Noted). WritesFront (WholeText told header.scheme r fails.0) start out) at none fails.1)
+ends_unfinished told NoMemory header read tail line records start out at none fails = ends_within told header read (line ∷ tail) records start out at fails
 
 -- ---- at the end
 
@@ -101,18 +101,18 @@ faultless header lines records at =
     ap (λ n. option_map (λ k. k + 2) (cond (nat_lt n (length lines)) (Some n) None)) (all_formed header lines records at)
     ∙ ap (λ b. option_map (λ k. k + 2) (cond b (Some (length lines)) None)) most
 
-pub ends_done : (some : Bool) (header : Header) (lines : List (List ℕ)) (records : List Noted) (start out : Option (List ℕ)) → AreTaken header lines records
-    → WritesAll (WholeText header.scheme records some) start out → EndsBy (Ok header) lines (Ok some) start out
-ends_done some header lines records start out at written =
-    (faultless header lines records at, subst (λ (r : List Noted). WritesAll (WholeText header.scheme r some) start out) (sym (records_of_all header lines records at)) written)
+pub ends_done : (told : Told) (some : Bool) (header : Header) (lines : List (List ℕ)) (records : List Noted) (start out : Option (List ℕ)) → AreTaken header lines records
+    → WritesAll (WholeText told header.scheme records some) start out → EndsBy told (Ok header) lines (Ok some) start out
+ends_done told some header lines records start out at written =
+    (faultless header lines records at, subst (λ (r : List Noted). WritesAll (WholeText told header.scheme r some) start out) (sym (records_of_all header lines records at)) written)
 
-pub ends_undone : (fault : ReadingFault) (header : Header) (lines : List (List ℕ)) (records : List Noted) (start out : Option (List ℕ)) → AreTaken header lines records
-    → FailsAtEnd fault header.scheme records start out → EndsBy (Ok header) lines (Err (report_fault_of fault)) start out
-ends_undone Unreadable header lines records start out at fails = absurd fails
-ends_undone Output header lines records start out at fails =
-    inr (fails.0, subst (λ (r : List Noted). WritesFront (WholeText header.scheme r fails.0) start out) (sym (records_of_all header lines records at)) fails.1)
-ends_undone NoMemory header lines records start out at fails =
-    subst (λ (l : List (List ℕ)). EndsBy (Ok header) l (Err reported.NoMemory) start out) (append-nil lines) (ends_within header lines [] records start out at fails)
+pub ends_undone : (told : Told) (fault : ReadingFault) (header : Header) (lines : List (List ℕ)) (records : List Noted) (start out : Option (List ℕ)) → AreTaken header lines records
+    → FailsAtEnd fault told header.scheme records start out → EndsBy told (Ok header) lines (Err (report_fault_of fault)) start out
+ends_undone told Unreadable header lines records start out at fails = absurd fails
+ends_undone told Output header lines records start out at fails =
+    inr (fails.0, subst (λ (r : List Noted). WritesFront (WholeText told header.scheme r fails.0) start out) (sym (records_of_all header lines records at)) fails.1)
+ends_undone told NoMemory header lines records start out at fails =
+    subst (λ (l : List (List ℕ)). EndsBy told (Ok header) l (Err reported.NoMemory) start out) (append-nil lines) (ends_within told header lines [] records start out at fails)
 
 -- ---- what a step says, of the header and of the line that it was called for
 
@@ -120,73 +120,73 @@ pub formed_line : (b : Bool) (old header : Header) (given line : List ℕ) → o
 formed_line b old header given line e f is =
     subst (λ (h : Header). has_no_form h line ≡ b) e (subst (λ (l : List ℕ). has_no_form old l ≡ b) f is)
 
-pub took_line : (old header : Header) (given line : List ℕ) (records : List Noted) (start out : Option (List ℕ)) (r : Reading) → old ≡ header → given ≡ line
-    → Stands start out (with_record (line_in old given) records) r → Stands start out (with_record (line_in header line) records) r
-took_line old header given line records start out r e f took =
-    subst (λ (h : Header). Stands start out (with_record (line_in h line) records) r) e
-    (subst (λ (l : List ℕ). Stands start out (with_record (line_in old l) records) r) f took)
+pub took_line : (told : Told) (old header : Header) (number : ℕ) (given line : List ℕ) (records : List Noted) (start out : Option (List ℕ)) (r : Reading) → old ≡ header → given ≡ line
+    → Stands told start out (with_record (line_in old given) number records) r → Stands told start out (with_record (line_in header line) number records) r
+took_line told old header number given line records start out r e f took =
+    subst (λ (h : Header). Stands told start out (with_record (line_in h line) number records) r) e
+    (subst (λ (l : List ℕ). Stands told start out (with_record (line_in old l) number records) r) f took)
 
-pub failed_line : (fault : ReadingFault) (old header : Header) (given line : List ℕ) (records : List Noted) (start out : Option (List ℕ)) → old ≡ header → given ≡ line
-    → FailsAtLine fault old given records start out → FailsAtLine fault header line records start out
-failed_line fault old header given line records start out e f fails =
-    subst (λ (h : Header). FailsAtLine fault h line records start out) e (subst (λ (l : List ℕ). FailsAtLine fault old l records start out) f fails)
+pub failed_line : (told : Told) (fault : ReadingFault) (old header : Header) (number : ℕ) (given line : List ℕ) (records : List Noted) (start out : Option (List ℕ)) → old ≡ header → given ≡ line
+    → FailsAtLine fault told old number given records start out → FailsAtLine fault told header number line records start out
+failed_line told fault old header number given line records start out e f fails =
+    subst (λ (h : Header). FailsAtLine fault told h number line records start out) e (subst (λ (l : List ℕ). FailsAtLine fault told old number l records start out) f fails)
 
-pub failed_end : (fault : ReadingFault) (old header : Header) (records : List Noted) (start out : Option (List ℕ)) → old ≡ header → FailsAtEnd fault old.scheme records start out → FailsAtEnd fault header.scheme records start out
-failed_end fault old header records start out e fails = subst (λ (h : Header). FailsAtEnd fault h.scheme records start out) e fails
+pub failed_end : (told : Told) (fault : ReadingFault) (old header : Header) (records : List Noted) (start out : Option (List ℕ)) → old ≡ header → FailsAtEnd fault told old.scheme records start out → FailsAtEnd fault told header.scheme records start out
+failed_end told fault old header records start out e fails = subst (λ (h : Header). FailsAtEnd fault told h.scheme records start out) e fails
 
-pub written_end : (some : Bool) (old header : Header) (records : List Noted) (start out : Option (List ℕ)) → old ≡ header → WritesAll (WholeText old.scheme records some) start out → WritesAll (WholeText header.scheme records some) start out
-written_end some old header records start out e written = subst (λ (h : Header). WritesAll (WholeText h.scheme records some) start out) e written
+pub written_end : (told : Told) (some : Bool) (old header : Header) (records : List Noted) (start out : Option (List ℕ)) → old ≡ header → WritesAll (WholeText told old.scheme records some) start out → WritesAll (WholeText told header.scheme records some) start out
+written_end told some old header records start out e written = subst (λ (h : Header). WritesAll (WholeText told h.scheme records some) start out) e written
 
 pub told_line : (number : ℕ) (header : Header) (given line : List ℕ) (some : Bool) (r : ReportFault) → given ≡ line → IsLine number (fault_of header given) some r → IsLine number (fault_of header line) some r
-told_line number header given line some r e told = subst (λ (l : List ℕ). IsLine number (fault_of header l) some r) e told
+told_line number header given line some r e is = subst (λ (l : List ℕ). IsLine number (fault_of header l) some r) e is
 
 -- nothing was taken of a line that has no form
-pub took_none : (header : Header) (line : List ℕ) (records : List Noted) (start out : Option (List ℕ)) (r : Reading) → has_no_form header line ≡ true
-    → Stands start out (with_record (line_in header line) records) r → Stands start out records r
-took_none header line records start out r none took = by_line (line_in header line) none took
+pub took_none : (told : Told) (header : Header) (number : ℕ) (line : List ℕ) (records : List Noted) (start out : Option (List ℕ)) (r : Reading) → has_no_form header line ≡ true
+    → Stands told start out (with_record (line_in header line) number records) r → Stands told start out records r
+took_none told header number line records start out r none took = by_line (line_in header line) none took
   where
-    by_line : (said : Option LineText) → is_none said ≡ true → Stands start out (with_record said records) r → Stands start out records r
+    by_line : (said : Option LineText) → is_none said ≡ true → Stands told start out (with_record said number records) r → Stands told start out records r
     by_line None none took = took
     by_line (Some text) none took = absurd (false≢true none)
 
 -- the text has these lines
-pub with_text : (left : Option (List ℕ)) (lines : List (List ℕ)) (said : Result Header (List ℕ)) (r : Result Bool ReportFault) (start out : Option (List ℕ)) → IsText left lines → EndsBy said lines r start out
-    → (text : List ℕ) × IfSome left (λ all. text ≡ all) × EndsBy said (lines_of text) r start out
-with_text left lines said r start out whole ends =
-    (whole.text, whole.is_left, subst (λ (l : List (List ℕ)). EndsBy said l r start out) (sym whole.has) ends)
+pub with_text : (told : Told) (left : Option (List ℕ)) (lines : List (List ℕ)) (said : Result Header (List ℕ)) (r : Result Bool ReportFault) (start out : Option (List ℕ)) → IsText left lines → EndsBy told said lines r start out
+    → (text : List ℕ) × IfSome left (λ all. text ≡ all) × EndsBy told said (lines_of text) r start out
+with_text told left lines said r start out whole ends =
+    (whole.text, whole.is_left, subst (λ (l : List (List ℕ)). EndsBy told said l r start out) (sym whole.has) ends)
 
 -- ---- with the first line
 
-ends_from : (text first : List ℕ) (lines : List (List ℕ)) (said : Result Header (List ℕ)) (r : Result Bool ReportFault) (start out : Option (List ℕ)) → lines_of text ≡ first ∷ lines
-    → said_first first ≡ said → EndsBy said lines r start out → Ends text r start out
-ends_from text first lines said r start out e is ends =
-    subst (λ (l : List (List ℕ)). EndsBy (said_first (get_or l 0 [])) (drop 1 l) r start out) (sym e)
-    (subst (λ (h : Result Header (List ℕ)). EndsBy h lines r start out) (sym is) ends)
+ends_from : (told : Told) (text first : List ℕ) (lines : List (List ℕ)) (said : Result Header (List ℕ)) (r : Result Bool ReportFault) (start out : Option (List ℕ)) → lines_of text ≡ first ∷ lines
+    → said_first first ≡ said → EndsBy told said lines r start out → Ends told text r start out
+ends_from told text first lines said r start out e is ends =
+    subst (λ (l : List (List ℕ)). EndsBy told (said_first (get_or l 0 [])) (drop 1 l) r start out) (sym e)
+    (subst (λ (h : Result Header (List ℕ)). EndsBy told h lines r start out) (sym is) ends)
 
 -- of no line anything is printed
-none_told : (said : Result Header (List ℕ)) → Tells said [] []
-none_told (Err first) = refl
-none_told (Ok header) = ([], tt, refl)
+none_told : (told : Told) (said : Result Header (List ℕ)) → Tells told said [] []
+none_told told (Err first) = refl
+none_told told (Ok header) = ([], tt, refl)
 
-none_written : (said : Result Header (List ℕ)) (start : Option (List ℕ)) → WritesAll (Tells said []) start start
-none_written said start = ([], none_told said, Appends-nil start)
+none_written : (told : Told) (said : Result Header (List ℕ)) (start : Option (List ℕ)) → WritesAll (Tells told said []) start start
+none_written told said start = ([], none_told told said, Appends-nil start)
 
-ends_unbegun : (fault : ReadingFault) (said : Result Header (List ℕ)) (lines : List (List ℕ)) (start : Option (List ℕ)) → IsReadFault fault → EndsBy said lines (Err (report_fault_of fault)) start start
-ends_unbegun Unreadable said lines start is = ([], lines, refl, none_written said start)
-ends_unbegun Output said lines start is = absurd is
-ends_unbegun NoMemory said lines start is = ([], lines, refl, none_written said start)
+ends_unbegun : (told : Told) (fault : ReadingFault) (said : Result Header (List ℕ)) (lines : List (List ℕ)) (start : Option (List ℕ)) → IsReadFault fault → EndsBy told said lines (Err (report_fault_of fault)) start start
+ends_unbegun told Unreadable said lines start is = ([], lines, refl, none_written told said start)
+ends_unbegun told Output said lines start is = absurd is
+ends_unbegun told NoMemory said lines start is = ([], lines, refl, none_written told said start)
 
-pub ends_without_header : (r : ReportFault) (first : List ℕ) (lines : List (List ℕ)) (start : Option (List ℕ)) → IsLine 1 (header_fault first) false r → EndsBy (Err first) lines (Err r) start start
-ends_without_header reported.Unreadable first lines start is = absurd is
-ends_without_header reported.Output first lines start is = absurd is
-ends_without_header reported.NoMemory first lines start is = absurd is
-ends_without_header (reported.Line n fault warned) first lines start is = (ap Some (sym is.0), is.1, ([], (is.2, refl), Appends-nil start))
+pub ends_without_header : (told : Told) (r : ReportFault) (first : List ℕ) (lines : List (List ℕ)) (start : Option (List ℕ)) → IsLine 1 (header_fault first) false r → EndsBy told (Err first) lines (Err r) start start
+ends_without_header told reported.Unreadable first lines start is = absurd is
+ends_without_header told reported.Output first lines start is = absurd is
+ends_without_header told reported.NoMemory first lines start is = absurd is
+ends_without_header told (reported.Line n fault warned) first lines start is = (ap Some (sym is.0), is.1, ([], (is.2, refl), Appends-nil start))
 
 -- a text with this first line and these lines
-pub with_header : (left : Option (List ℕ)) (first : List ℕ) (lines : List (List ℕ)) (said : Result Header (List ℕ)) (r : Result Bool ReportFault) (start out : Option (List ℕ)) → IsText left (first ∷ lines)
-    → said_first first ≡ said → EndsBy said lines r start out → (text : List ℕ) × IfSome left (λ all. text ≡ all) × Ends text r start out
-with_header left first lines said r start out whole is ends = (whole.text, whole.is_left, ends_from whole.text first lines said r start out whole.has is ends)
+pub with_header : (told : Told) (left : Option (List ℕ)) (first : List ℕ) (lines : List (List ℕ)) (said : Result Header (List ℕ)) (r : Result Bool ReportFault) (start out : Option (List ℕ)) → IsText left (first ∷ lines)
+    → said_first first ≡ said → EndsBy told said lines r start out → (text : List ℕ) × IfSome left (λ all. text ≡ all) × Ends told text r start out
+with_header told left first lines said r start out whole is ends = (whole.text, whole.is_left, ends_from told whole.text first lines said r start out whole.has is ends)
 
-pub without_a_line : (left : Option (List ℕ)) (text : List ℕ) (fault : ReadingFault) (start : Option (List ℕ)) → IfSome left (λ all. text ≡ all) → IsReadFault fault
-    → (text : List ℕ) × IfSome left (λ all. text ≡ all) × Ends text (Err (report_fault_of fault)) start start
-without_a_line left text fault start is_left is = (text, is_left, ends_unbegun fault (header_of text) (body_of text) start is)
+pub without_a_line : (told : Told) (left : Option (List ℕ)) (text : List ℕ) (fault : ReadingFault) (start : Option (List ℕ)) → IfSome left (λ all. text ≡ all) → IsReadFault fault
+    → (text : List ℕ) × IfSome left (λ all. text ≡ all) × Ends told text (Err (report_fault_of fault)) start start
+without_a_line told left text fault start is_left is = (text, is_left, ends_unbegun told fault (header_of text) (body_of text) start is)

@@ -25,5 +25,7 @@ pub mod TriggerLaws
 pub mod WorkedReports
 mod TextLemmas
 mod NoteLemmas
+mod RunLemmas
+mod BlockLemmas
 pub mod FaultLaws
 pub mod WorkedFaults

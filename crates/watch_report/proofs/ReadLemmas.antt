@@ -18,7 +18,7 @@ pub record AreRead (left rest : Option (List ℕ)) (read : List (List ℕ)) : Ty
 -- each of these lines has a form, and they have these records
 pub record AreTaken (header : Header) (read : List (List ℕ)) (records : List Noted) : Type 0 where
   pub formed : (after : List (List ℕ)) → position_or_len (has_no_form header) (read ++ after) ≡ length read + position_or_len (has_no_form header) after
-  pub are : (after : List (List ℕ)) → records_after header [] (read ++ after) ≡ records_after header records after
+  pub are : (after : List (List ℕ)) → records_after header 2 [] (read ++ after) ≡ records_after header (length read + 2) records after
 
 -- ---- bytes
 
@@ -93,26 +93,29 @@ passes test x xs e = ap (λ b. cond (not b) (1 + position_or_len test xs) 0) e
 pub stops : {X : Type 0} (test : X → Bool) (x : X) (xs : List X) → test x ≡ true → position_or_len test (x ∷ xs) ≡ 0
 stops test x xs e = ap (λ b. cond (not b) (1 + position_or_len test xs) 0) e
 
-pub more_taken : (header : Header) (read : List (List ℕ)) (line : List ℕ) (records : List Noted) → AreTaken header read records → has_no_form header line ≡ false
-    → AreTaken header (read ++ line ∷ []) (with_record (line_in header line) records)
-more_taken header read line records at formed =
+pub more_taken : (header : Header) (read : List (List ℕ)) (number : ℕ) (line : List ℕ) (records : List Noted) → number ≡ length read + 2 → AreTaken header read records → has_no_form header line ≡ false
+    → AreTaken header (read ++ line ∷ []) (with_record (line_in header line) number records)
+more_taken header read number line records e at formed =
     record {
       formed = λ after.
           let joined = ap (position_or_len (has_no_form header)) (append_assoc read (line ∷ []) after) in
           omega (arith, joined, at.formed (line ∷ after), passes (has_no_form header) line after formed, length-append read (line ∷ []));
-      are = λ after. ap (records_after header []) (append_assoc read (line ∷ []) after) ∙ at.are (line ∷ after);
+      are = λ after.
+          let next : length read + 2 + 1 ≡ length (read ++ line ∷ []) + 2 = omega (arith, length-append read (line ∷ [])) in
+          ap (records_after header 2 []) (append_assoc read (line ∷ []) after) ∙ at.are (line ∷ after)
+              ∙ (λ j. records_after header (next j) (with_record (line_in header line) (sym e j) records) after);
     }
 
 pub all_formed : (header : Header) (read : List (List ℕ)) (records : List Noted) → AreTaken header read records → position_or_len (has_no_form header) read ≡ length read
 all_formed header read records at = omega (arith, ap (position_or_len (has_no_form header)) (append-nil read), at.formed [])
 
-records_are : (header : Header) (read : List (List ℕ)) (records : List Noted) → AreTaken header read records → records_after header [] read ≡ records
-records_are header read records at = ap (records_after header []) (sym (append-nil read)) ∙ at.are []
+records_are : (header : Header) (read : List (List ℕ)) (records : List Noted) → AreTaken header read records → records_after header 2 [] read ≡ records
+records_are header read records at = ap (records_after header 2 []) (sym (append-nil read)) ∙ at.are []
 
 -- the records of lines of which each has a form, and of those before one that has none
 pub records_of_front : (header : Header) (read after : List (List ℕ)) (records : List Noted) → AreTaken header read records → position_or_len (has_no_form header) after ≡ 0 → records_of header (read ++ after) ≡ records
 records_of_front header read after records at none =
-    ap (records_after header []) (take_at read after (position_or_len (has_no_form header) (read ++ after)) (omega (arith, at.formed after, none))) ∙ records_are header read records at
+    ap (records_after header 2 []) (take_at read after (position_or_len (has_no_form header) (read ++ after)) (omega (arith, at.formed after, none))) ∙ records_are header read records at
 
 pub records_of_all : (header : Header) (read : List (List ℕ)) (records : List Noted) → AreTaken header read records → records_of header read ≡ records
 records_of_all header read records at = ap (records_of header) (sym (append-nil read)) ∙ records_of_front header read [] records at refl

@@ -13,32 +13,29 @@ use Rattle.watch_engine.specs.Watching.{Follows}
 use Rattle.watch_tables.specs.Words.{since, words}
 use Rattle.watch_report.specs.declared.counts.VerdictCounts.{VerdictCounts}
 use Rattle.watch_report.specs.declared.header.Header.{Header}
-use Rattle.watch_report.specs.declared.warning.Trigger.{Trigger}
 use Rattle.watch_report.specs.Warnings.{sum_of, summary_line}
 use Rattle.watch_report.specs.TraceLines.{line_in, record_of}
 use Rattle.watch_report.specs.declared.reading_fault.ReadingFault.{ReadingFault}
 use Rattle.watch_report.specs.declared.reading_fault.ReadingFault.TheVariants.{Unreadable, Output, NoMemory}
 use Rattle.watch_report.specs.declared.reading.Reading.{Reading}
-use Rattle.watch_report.specs.NoteTexts.{AreNotes}
+use Rattle.watch_report.specs.Past.{ArePast}
 use Rattle.watch_report.specs.Output.{AppendsFront}
-use Rattle.watch_report.specs.Reading.{FailsAtEnd, FailsAtLine, FailsAtRecord, HasSeen, noted_of}
+use Rattle.watch_report.specs.Reading.{FailsAtEnd, FailsAtLine, FailsAtRecord, HasSeen}
 use Rattle.watch_report.specs.TraceText.{Noted, trace_of}
-use Rattle.watch_report.specs.VerdictLines.{AreGiven, GivesAt, GivesVerdict, WholeText, counted, counts_after, counts_of, lines_by, record_lines, trigger_of, verdict_lines, with_verdict}
+use Rattle.watch_report.specs.declared.detail.Detail.{Detail}
+use Rattle.watch_report.specs.Reports.{Told, WholeText, told_at, told_text, totals_by}
+use Rattle.watch_report.specs.Telling.{IsTelling}
+use Rattle.watch_report.specs.VerdictLines.{AreGiven, GivesAt, GivesVerdict, counted, counts_after, counts_of, with_verdict}
 use Rattle.watch_report.proofs.OutputLemmas.{front_after}
 
 -- ---- one record more
 
-pub lines_are : (records : List Noted) (made : Record) (by lines : List ℕ) (warnings : List Warning) (trigger : Option Trigger) (number : ℕ)
-    → trigger ≡ trigger_of (trace_of records) made → number ≡ length records + 1 → lines ≡ lines_by trigger number records by warnings
-    → lines ≡ record_lines (noted_of made by) records warnings
-lines_are records made by lines warnings trigger number is counts e = e ∙ (λ j. lines_by (is j) (counts j) records by warnings)
-
-pub seen_more : (r new : Reading) (records : List Noted) (given : List (List Warning)) (newest : Noted) (warnings : List Warning)
-    → HasSeen records given r → new.header ≡ r.header → new.watch.scheme ≡ r.watch.scheme → Follows words since (newest.made ∷ trace_of records) new.watch
-    → AreWarnings r.watch.scheme newest.made (trace_of records) warnings → new.records ≡ r.records + 1 → AreNotes (newest ∷ records) new.notes
+pub seen_more : (detail : Detail) (r new : Reading) (records : List Noted) (given : List (List Warning)) (newest : Noted) (warnings : List Warning)
+    → HasSeen detail records given r → new.header ≡ r.header → new.watch.scheme ≡ r.watch.scheme → Follows words since (newest.made ∷ trace_of records) new.watch
+    → AreWarnings r.watch.scheme newest.made (trace_of records) warnings → new.records ≡ r.records + 1 → ArePast (newest ∷ records) new.past → IsTelling detail r.header.scheme (newest ∷ records) (warnings ∷ given) new.telling
     → new.user ≡ counts_after false r.user warnings → new.kernel ≡ counts_after true r.kernel warnings
-    → HasSeen (newest ∷ records) (warnings ∷ given) new
-seen_more r new records given newest warnings seen header scheme follows are number notes user kernel =
+    → HasSeen detail (newest ∷ records) (warnings ∷ given) new
+seen_more detail r new records given newest warnings seen header scheme follows are number past telling user kernel =
     let old : r.watch.scheme ≡ r.header.scheme = seen.scheme in
     record {
       follows = follows;
@@ -48,26 +45,27 @@ seen_more r new records given newest warnings seen header scheme follows are num
         subst (λ (h : Header). AreGiven h.scheme records given) (sym header) seen.are,
       );
       number = omega (arith, number, seen.number);
-      notes = notes;
+      past = past;
+      telling = subst (λ (h : Header). IsTelling detail h.scheme (newest ∷ records) (warnings ∷ given) new.telling) (sym header) telling;
       user = user ∙ ap (λ (counts : VerdictCounts). counts_after false counts warnings) seen.user;
       kernel = kernel ∙ ap (λ (counts : VerdictCounts). counts_after true counts warnings) seen.kernel;
     }
 
--- the writer failed at the lines of a record
-pub fails_at_record : (r : Result (Unit {0}) ReadingFault) (scheme : Scheme) (newest : Noted) (records : List Noted) (given : List (List Warning)) (warnings : List Warning) (start mid out : Option (List ℕ))
-    → AreWarnings scheme newest.made (trace_of records) warnings → AreGiven scheme records given → Appends start mid (verdict_lines records given)
-    → OnErr r (IsErrOf r Output) → OnErr r (AppendsFront mid out (record_lines newest records warnings))
-    → IfErr r (λ fault. FailsAtRecord fault scheme newest records start out)
-fails_at_record (Ok done) scheme newest records given warnings start mid out new old written is front = tt
-fails_at_record (Err fault) scheme newest records given warnings start mid out new old written is front =
-    subst (λ (r : Result (Unit {0}) ReadingFault). IfErr r (λ f. FailsAtRecord f scheme newest records start out)) (sym is)
-    (verdict_lines (newest ∷ records) (warnings ∷ given), (warnings ∷ given, (new, old), refl), front_after start mid out _ _ written front)
+-- the writer failed at what is told of a record
+pub fails_at_record : (told : Told) (r : Result (Unit {0}) ReadingFault) (scheme : Scheme) (newest : Noted) (records : List Noted) (given : List (List Warning)) (warnings : List Warning) (start mid out : Option (List ℕ))
+    → AreWarnings scheme newest.made (trace_of records) warnings → AreGiven scheme records given → Appends start mid (told_text told scheme records given)
+    → OnErr r (IsErrOf r Output) → OnErr r (AppendsFront mid out (told_at told.detail told.file scheme newest records warnings given))
+    → IfErr r (λ fault. FailsAtRecord fault told scheme newest records start out)
+fails_at_record told (Ok done) scheme newest records given warnings start mid out new old written is front = tt
+fails_at_record told (Err fault) scheme newest records given warnings start mid out new old written is front =
+    subst (λ (r : Result (Unit {0}) ReadingFault). IfErr r (λ f. FailsAtRecord f told scheme newest records start out)) (sym is)
+    (told_text told scheme (newest ∷ records) (warnings ∷ given), (warnings ∷ given, (new, old), refl), front_after start mid out _ _ written front)
 
-pub fails_at_line : (fault : ReadingFault) (header : Header) (line by : List ℕ) (made : Record) (records : List Noted) (start out : Option (List ℕ))
-    → line_in header line ≡ Some (record_of made by) → FailsAtRecord fault header.scheme (noted_of made by) records start out → FailsAtLine fault header line records start out
-fails_at_line Unreadable header line by made records start out e fails = absurd fails
-fails_at_line Output header line by made records start out e fails = rw e (refl, fails)
-fails_at_line NoMemory header line by made records start out e fails = fails
+pub fails_at_line : (fault : ReadingFault) (told : Told) (header : Header) (number : ℕ) (line by : List ℕ) (made : Record) (records : List Noted) (start out : Option (List ℕ))
+    → line_in header line ≡ Some (record_of made by) → FailsAtRecord fault told header.scheme (record { made = made; by = by; line = number }) records start out → FailsAtLine fault told header number line records start out
+fails_at_line Unreadable told header number line by made records start out e fails = absurd fails
+fails_at_line Output told header number line by made records start out e fails = rw e (refl, fails)
+fails_at_line NoMemory told header number line by made records start out e fails = fails
 
 -- ---- how many verdicts there are
 
@@ -127,18 +125,18 @@ pub counts_say : (scheme : Scheme) (records : List Noted) (given : List (List Wa
 counts_say scheme records given are =
     (λ t. gives_some scheme records given are (ltb-true 0 (count_in given) t), λ gives. lt-ltb 0 (count_in given) (count_positive scheme records given are gives))
 
--- ---- the last line
+-- ---- the last lines
 
-pub whole_text : (scheme : Scheme) (records : List Noted) (given : List (List Warning)) (some : Bool) (user kernel : VerdictCounts) (number : ℕ) → AreGiven scheme records given
+pub whole_text : (told : Told) (scheme : Scheme) (records : List Noted) (given : List (List Warning)) (some : Bool) (user kernel : VerdictCounts) (number : ℕ) → AreGiven scheme records given
     → some ≡ nat_lt 0 (sum_of user + sum_of kernel) → user ≡ counts_of false given → kernel ≡ counts_of true given → number ≡ length records
-    → WholeText scheme records some (verdict_lines records given ++ summary_line number user kernel)
-whole_text scheme records given some user kernel number are is a b n =
+    → WholeText told scheme records some (told_text told scheme records given ++ (totals_by told.detail told.file scheme records given ++ summary_line number user kernel))
+whole_text told scheme records given some user kernel number are is a b n =
     rw (is, a, b, n) (given, are, refl, counts_say scheme records given are)
 
-pub fails_at_end : (r : Result (Unit {0}) ReadingFault) (scheme : Scheme) (records : List Noted) (some : Bool) (before last : List ℕ) (start mid out : Option (List ℕ))
-    → WholeText scheme records some (before ++ last) → Appends start mid before → OnErr r (IsErrOf r Output) → OnErr r (AppendsFront mid out last)
-    → IfErr r (λ fault. FailsAtEnd fault scheme records start out)
-fails_at_end (Ok done) scheme records some before last start mid out whole written is front = tt
-fails_at_end (Err fault) scheme records some before last start mid out whole written is front =
-    subst (λ (r : Result (Unit {0}) ReadingFault). IfErr r (λ f. FailsAtEnd f scheme records start out)) (sym is)
+pub fails_at_end : (told : Told) (r : Result (Unit {0}) ReadingFault) (scheme : Scheme) (records : List Noted) (some : Bool) (before last : List ℕ) (start mid out : Option (List ℕ))
+    → WholeText told scheme records some (before ++ last) → Appends start mid before → OnErr r (IsErrOf r Output) → OnErr r (AppendsFront mid out last)
+    → IfErr r (λ fault. FailsAtEnd fault told scheme records start out)
+fails_at_end told (Ok done) scheme records some before last start mid out whole written is front = tt
+fails_at_end told (Err fault) scheme records some before last start mid out whole written is front =
+    subst (λ (r : Result (Unit {0}) ReadingFault). IfErr r (λ f. FailsAtEnd f told scheme records start out)) (sym is)
     (some, (before ++ last, whole, front_after start mid out before last written front))

@@ -1,6 +1,7 @@
 -- The worked reports, computed.
-use Rattle.std.proofs.Common.{◌≡◌, ℕ, codes, false, List, [], ◌∷◌, ◌++◌, Option, Some, None, inl, inr, refl, sym, ap, ◌∙◌, length, arith}
+use Rattle.std.proofs.Common.{◌≡◌, ℕ, codes, true, false, List, [], ◌∷◌, ◌++◌, Option, Some, None, inl, inr, refl, sym, ap, ◌∙◌, length, arith}
 use Rattle.std.specs.Fmt.{digits}
+use Rattle.std.specs.Str.{bytes_eq}
 use Rattle.std.proofs.lemmas.Bool.{false≢true}
 use Rattle.pte.specs.declared.scheme.Scheme.{Scheme}
 use Rattle.pte.specs.declared.scheme.Scheme.TheVariants.{Sv39, Sv48}
@@ -12,7 +13,9 @@ use Rattle.watch.specs.Verdicts.{IsGiven}
 use Rattle.watch_engine.specs.Warnings.{AreWarnings}
 use Rattle.watch_report.specs.declared.line_fault.LineFault.{LineFault}
 use Rattle.watch_report.specs.TraceText.{Noted, body_of}
-use Rattle.watch_report.specs.VerdictLines.{GivesVerdict, WholeText, verdict_lines}
+use Rattle.watch_report.specs.declared.detail.Detail.TheVariants.{Causes, Counts, Verdicts}
+use Rattle.watch_report.specs.Reports.{WholeText, told_text}
+use Rattle.watch_report.specs.VerdictLines.{GivesVerdict}
 use Rattle.watch_report.specs.WorkedReports as rows
 
 -- no verdict at the first record, which is an access
@@ -34,45 +37,56 @@ gives_none : (scheme : Scheme) (of address : ℕ) → GivesVerdict scheme (Use o
 gives_none scheme of address (inl (verdict, hart, x, due)) = nothing_given scheme verdict of address hart x due.given
 gives_none scheme of address (inr nothing) = nothing
 
-whole : (scheme : Scheme) (of address : ℕ) (by : List ℕ) → WholeText scheme (record { made = Use of address; by = by } ∷ []) false (codes "1 record, no verdict\n")
+whole : (scheme : Scheme) (of address : ℕ) (by : List ℕ) (line : ℕ) → WholeText (rows.about Verdicts) scheme (record { made = Use of address; by = by; line = line } ∷ []) false (codes "1 record, no verdict\n")
 unfolding digits
-whole scheme of address by = ([] ∷ [], (none_at_first scheme of address, tt), refl, (λ t. absurd (false≢true t), λ gives. absurd (gives_none scheme of address gives)))
+whole scheme of address by line = ([] ∷ [], (none_at_first scheme of address, tt), refl, (λ t. absurd (false≢true t), λ gives. absurd (gives_none scheme of address gives)))
+
+-- nor is anything told in another detail
+whole_by_causes : (of address : ℕ) (by : List ℕ) (line : ℕ) → WholeText (rows.about Causes) Sv39 (record { made = Use of address; by = by; line = line } ∷ []) false (codes "1 record, no verdict\n")
+unfolding digits
+whole_by_causes of address by line = ([] ∷ [], (none_at_first Sv39 of address, tt), refl, (λ t. absurd (false≢true t), λ gives. absurd (gives_none Sv39 of address gives)))
+
+whole_by_counts : (of address : ℕ) (by : List ℕ) (line : ℕ) → WholeText (rows.about Counts) Sv39 (record { made = Use of address; by = by; line = line } ∷ []) false (codes "1 record, no verdict\n")
+unfolding digits
+whole_by_counts of address by line = ([] ∷ [], (none_at_first Sv39 of address, tt), refl, (λ t. absurd (false≢true t), λ gives. absurd (gives_none Sv39 of address gives)))
 
 pub done : rows.done
-unfolding rows.Prints
-done = (refl, (_, whole Sv39 1 0x1000 (codes "here"), refl))
+unfolding rows.PrintsBy
+done Verdicts = (refl, (_, whole Sv39 1 0x1000 (codes "here") 5, refl))
+done Causes = (refl, (_, whole_by_causes 1 0x1000 (codes "here") 5, refl))
+done Counts = (refl, (_, whole_by_counts 1 0x1000 (codes "here") 5, refl))
 
 pub done_without_a_feed : rows.done_without_a_feed
-unfolding rows.Prints
-done_without_a_feed = (refl, (_, whole Sv48 1 0x1000 [], refl))
+unfolding rows.PrintsBy
+done_without_a_feed = (refl, (_, whole Sv48 1 0x1000 [] 2, refl))
 
 pub header_alone : rows.header_alone
-unfolding digits rows.Prints
+unfolding digits rows.PrintsBy
 header_alone = (refl, (codes "0 records, no verdict\n", ([], tt, refl, (λ t. absurd (false≢true t), λ gives. absurd gives)), refl))
 
 pub no_line : rows.no_line
-unfolding rows.Prints
+unfolding rows.PrintsBy
 no_line = (refl, refl, ([], (refl, refl), refl))
 
 pub no_header : rows.no_header
-unfolding rows.Prints
+unfolding rows.PrintsBy
 no_header = (refl, refl, ([], (refl, refl), refl))
 
 pub faulty : rows.faulty
-unfolding rows.Prints
-faulty = (refl, refl, (_, whole Sv39 0 0x1000 [], refl))
+unfolding rows.PrintsBy
+faulty = (refl, refl, (_, whole Sv39 0 0x1000 [] 2, refl))
 
 pub torn : rows.torn
-unfolding rows.Prints
+unfolding rows.PrintsBy
 torn = ([], body_of rows.used_once, refl, ([], ([], tt, refl), refl))
 
 pub cut_off : rows.cut_off
-unfolding rows.Prints
-cut_off = inr (false, (_, whole Sv39 1 0x1000 (codes "here"), (5, refl)))
+unfolding rows.PrintsBy
+cut_off = inr (false, (_, whole Sv39 1 0x1000 (codes "here") 5, (5, refl)))
 
 pub cut_off_at_a_fault : rows.cut_off_at_a_fault
-unfolding rows.Prints
-cut_off_at_a_fault = inr (false, (_, whole Sv39 0 0x1000 [], (5, refl)))
+unfolding rows.PrintsBy
+cut_off_at_a_fault = inr (false, (_, whole Sv39 0 0x1000 [] 2, (5, refl)))
 
 pub ruleset endings = (done, done_without_a_feed, header_alone, no_line, no_header, faulty, torn, cut_off, cut_off_at_a_fault)
 
@@ -83,7 +97,7 @@ number_in None = 0
 number_in (Some n) = n
 
 pub other_line : rows.other_line
-unfolding rows.Prints
+unfolding rows.PrintsBy
 other_line ends = let same : 3 ≡ 4 = ap number_in ends.0 in omega (arith, same)
 
 abbrev column_in : Option LineFault → ℕ
@@ -91,34 +105,34 @@ column_in None = 0
 column_in (Some fault) = fault.column
 
 pub other_fault : rows.other_fault
-unfolding rows.Prints
+unfolding rows.PrintsBy
 other_fault ends = let same : 3 ≡ 4 = ap column_in ends.1 in omega (arith, same)
 
 pub done_with_a_fault : rows.done_with_a_fault
-unfolding rows.Prints
+unfolding rows.PrintsBy
 done_with_a_fault ends = let same : 3 ≡ 0 = ap number_in ends.0 in omega (arith, same)
 
 pub warned_without_a_verdict : rows.warned_without_a_verdict
-unfolding rows.Prints
+unfolding rows.PrintsBy
 warned_without_a_verdict (none, (text, (given, are, is, says), written)) = gives_none Sv39 1 0x1000 (says.0 refl)
 
 pub warned_at_a_fault : rows.warned_at_a_fault
-unfolding rows.Prints
+unfolding rows.PrintsBy
 warned_at_a_fault (number, fault, (text, (given, are, is, says), written)) = gives_none Sv39 0 0x1000 (says.0 refl)
 
 pub warned_without_a_header : rows.warned_without_a_header
-unfolding rows.Prints
+unfolding rows.PrintsBy
 warned_without_a_header (number, fault, (text, (some, is), written)) = false≢true (sym some)
 
 no_bytes : (byte : ℕ) (rest : List ℕ) → [] ≡ byte ∷ rest → ⊥
 no_bytes byte rest e = let long = ap length e in omega (arith, long)
 
 pub nothing_printed : rows.nothing_printed
-unfolding digits rows.Prints
+unfolding digits rows.PrintsBy
 nothing_printed (none, (text, (given, are, is, says), written)) = no_bytes _ _ (written ∙ is)
 
 abbrev one_use : List Noted
-one_use = record { made = Use 0 0x1000; by = [] } ∷ []
+one_use = record { made = Use 0 0x1000; by = []; line = 2 } ∷ []
 
 -- the last line has bytes, whatever stands before it
 no_end : (before : List ℕ) (byte : ℕ) (rest : List ℕ) → [] ≡ before ++ byte ∷ rest → ⊥
@@ -126,19 +140,51 @@ no_end [] byte rest e = no_bytes byte rest e
 no_end (first ∷ before) byte rest e = no_bytes first (before ++ byte ∷ rest) e
 
 pub no_last_line_at_a_fault : rows.no_last_line_at_a_fault
-unfolding digits rows.Prints
-no_last_line_at_a_fault (number, fault, (text, (given, are, is, says), written)) = no_end (verdict_lines one_use given) _ _ (written ∙ is)
+unfolding digits rows.PrintsBy
+no_last_line_at_a_fault (number, fault, (text, (given, are, is, says), written)) = no_end (told_text (rows.about Verdicts) Sv39 one_use given) _ _ (written ∙ is)
 
 pub ruleset refusals = (other_line, other_fault, done_with_a_fault, warned_without_a_verdict, warned_at_a_fault, warned_without_a_header, no_last_line_at_a_fault, nothing_printed)
 
--- ---- lines
+-- ---- verdicts
+
+pub lines_of_records : rows.lines_of_records
+lines_of_records = refl
 
 pub lines_of_verdicts : rows.lines_of_verdicts
 unfolding digits
-lines_of_verdicts = refl
+lines_of_verdicts = (refl, refl)
 
-pub last_line : rows.last_line
+pub lines_of_cause : rows.lines_of_cause
 unfolding digits
-last_line = refl
+lines_of_cause = (refl, refl)
 
-pub ruleset texts = (lines_of_verdicts, last_line)
+pub lines_of_causes : rows.lines_of_causes
+unfolding digits
+lines_of_causes = (refl, refl)
+
+pub counts_alone : rows.counts_alone
+unfolding digits
+counts_alone = (refl, refl)
+
+pub ruleset texts = (lines_of_records, lines_of_verdicts, lines_of_cause, lines_of_causes, counts_alone)
+
+differ : (told other : List ℕ) → bytes_eq told other ≡ false → bytes_eq other other ≡ true → told ≡ other → ⊥
+differ told other is self same = false≢true (sym is ∙ ap (λ (t : List ℕ). bytes_eq t other) same ∙ self)
+
+pub numbers_of_records : rows.numbers_of_records
+unfolding digits
+numbers_of_records says = differ _ _ refl refl says.0
+
+pub no_block : rows.no_block
+unfolding digits
+no_block says = differ _ _ refl refl says.0
+
+pub no_total : rows.no_total
+unfolding digits
+no_total says = differ _ _ refl refl says.1
+
+pub block_of_counts : rows.block_of_counts
+unfolding digits
+block_of_counts says = differ _ _ refl refl says.0
+
+pub ruleset refused = (numbers_of_records, no_block, no_total, block_of_counts)

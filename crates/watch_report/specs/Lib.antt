@@ -14,7 +14,11 @@ pub mod WorkedCauseLines
 pub mod TraceText
 pub mod TextEnds
 pub mod NoteTexts
+pub mod LineNumbers
+pub mod Past
 pub mod VerdictLines
+pub mod Reports
+pub mod Telling
 pub mod Output
 pub mod Reading
 pub mod Ending

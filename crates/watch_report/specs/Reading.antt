@@ -1,7 +1,6 @@
 -- A trace that is being read.
 use Rattle.std.specs.Prelude.{ℕ, Bool, true, false, ◌≡◌, List, [], ◌∷◌, ◌++◌, length, Option, OnSome}
 use Rattle.std.specs.Io.KnownBytes.{Appends, Consumes, IsAtEnd}
-use Rattle.watch.specs.declared.trace.Record.{Record}
 use Rattle.watch_engine.specs.declared.warning.Warning.{Warning}
 use Rattle.watch_engine.specs.Watching.{Follows}
 use Rattle.watch_tables.specs.Words.{since, words}
@@ -13,10 +12,13 @@ use Rattle.watch_report.specs.declared.reading.Reading.{Reading}
 use Rattle.pte.specs.declared.scheme.Scheme.{Scheme}
 use Rattle.watch_report.specs.declared.header.Header.{Header}
 use Rattle.watch_report.specs.TraceLines.{line_in}
-use Rattle.watch_report.specs.NoteTexts.{AreNotes}
+use Rattle.watch_report.specs.Past.{ArePast}
 use Rattle.watch_report.specs.Output.{WritesAll, WritesFront}
 use Rattle.watch_report.specs.TraceText.{Noted, has_no_form, lines_of, trace_of, with_record}
-use Rattle.watch_report.specs.VerdictLines.{AreGiven, VerdictText, WholeText, counts_of, verdict_lines}
+use Rattle.watch_report.specs.Reports.{Told, VerdictText, WholeText, told_text}
+use Rattle.watch_report.specs.Telling.{IsTelling}
+use Rattle.watch_report.specs.VerdictLines.{AreGiven, counts_of}
+use Rattle.watch_report.specs.declared.detail.Detail.{Detail}
 
 -- the bytes are the line, and its line feed if more come after it
 abbrev pub CutsLine : Bool → List ℕ → List ℕ → Type 0
@@ -47,45 +49,47 @@ report_fault_of Output = reported.Output
 report_fault_of NoMemory = reported.NoMemory
 
 -- these records were read, with these warnings
-pub record HasSeen (records : List Noted) (given : List (List Warning)) (r : Reading) : Type 0 where
+pub record HasSeen (detail : Detail) (records : List Noted) (given : List (List Warning))
+    (r : Reading) : Type 0 where
   pub follows : Follows words since (trace_of records) r.watch
   pub scheme : r.watch.scheme ≡ r.header.scheme
   pub are : AreGiven r.header.scheme records given
   pub number : r.records ≡ length records
-  pub notes : AreNotes records r.notes
+  pub past : ArePast records r.past
+  pub telling : IsTelling detail r.header.scheme records given r.telling
   pub user : r.user ≡ counts_of false given
   pub kernel : r.kernel ≡ counts_of true given
 
--- and their lines were written
-pub record Stands (start out : Option (List ℕ)) (records : List Noted) (r : Reading) : Type 0 where
+-- and what is told of them was written
+pub record Stands (told : Told) (start out : Option (List ℕ)) (records : List Noted)
+    (r : Reading) : Type 0 where
   pub given : List (List Warning)
-  pub seen : HasSeen records given r
-  pub written : Appends start out (verdict_lines records given)
+  pub seen : HasSeen told.detail records given r
+  pub written : Appends start out (told_text told r.header.scheme records given)
 
 -- what was written where a step fails at a record, a line, or the end, after these records
-abbrev pub FailsAtRecord : ReadingFault → Scheme → Noted → List Noted → Option (List ℕ)
+abbrev pub FailsAtRecord : ReadingFault → Told → Scheme → Noted → List Noted → Option (List ℕ)
     → Option (List ℕ) → Type 0
-FailsAtRecord Unreadable scheme newest records start out = ⊥
-FailsAtRecord Output scheme newest records start out =
-    WritesFront (VerdictText scheme (newest ∷ records)) start out
-FailsAtRecord NoMemory scheme newest records start out =
-    WritesAll (VerdictText scheme records) start out
+FailsAtRecord Unreadable told scheme newest records start out = ⊥
+FailsAtRecord Output told scheme newest records start out =
+    WritesFront (VerdictText told scheme (newest ∷ records)) start out
+FailsAtRecord NoMemory told scheme newest records start out =
+    WritesAll (VerdictText told scheme records) start out
 
-abbrev pub FailsAtLine : ReadingFault → Header → List ℕ → List Noted → Option (List ℕ)
-    → Option (List ℕ) → Type 0
-FailsAtLine Unreadable header line records start out = ⊥
-FailsAtLine Output header line records start out =
+abbrev pub FailsAtLine : ReadingFault → Told → Header → ℕ → List ℕ → List Noted
+    → Option (List ℕ) → Option (List ℕ) → Type 0
+FailsAtLine Unreadable told header number line records start out = ⊥
+FailsAtLine Output told header number line records start out =
     (has_no_form header line ≡ false)
-    × WritesFront (VerdictText header.scheme (with_record (line_in header line) records)) start out
-FailsAtLine NoMemory header line records start out =
-    WritesAll (VerdictText header.scheme records) start out
+    × WritesFront (VerdictText told header.scheme (with_record (line_in header line) number records))
+    start out
+FailsAtLine NoMemory told header number line records start out =
+    WritesAll (VerdictText told header.scheme records) start out
 
-abbrev pub FailsAtEnd : ReadingFault → Scheme → List Noted → Option (List ℕ) → Option (List ℕ)
-    → Type 0
-FailsAtEnd Unreadable scheme records start out = ⊥
-FailsAtEnd Output scheme records start out =
-    (some : Bool) × WritesFront (WholeText scheme records some) start out
-FailsAtEnd NoMemory scheme records start out = WritesAll (VerdictText scheme records) start out
-
-abbrev pub noted_of : Record → List ℕ → Noted
-noted_of made by = record { made = made; by = by }
+abbrev pub FailsAtEnd : ReadingFault → Told → Scheme → List Noted → Option (List ℕ)
+    → Option (List ℕ) → Type 0
+FailsAtEnd Unreadable told scheme records start out = ⊥
+FailsAtEnd Output told scheme records start out =
+    (some : Bool) × WritesFront (WholeText told scheme records some) start out
+FailsAtEnd NoMemory told scheme records start out =
+    WritesAll (VerdictText told scheme records) start out

@@ -45,25 +45,27 @@ abbrev pub fault_in : Result Header (List ℕ) → List (List ℕ) → ℕ → O
 fault_in (Err first) lines number = header_fault first
 fault_in (Ok header) lines number = fault_of header (get_or lines (number - 2) [])
 
--- a record, and what its note says
+-- a record, what its note says, and the number of its line: the header is line 1
 pub record Noted : Type 0 where
   pub made : Record
   pub by : List ℕ
+  pub line : ℕ
 
--- with the record that a line says, if it says one
-abbrev pub with_record : Option LineText → List Noted → List Noted
-with_record (Some (record_of made by)) records = record { made = made; by = by } ∷ records
-with_record _ records = records
+-- with the record that the line of a number says, if it says one
+abbrev pub with_record : Option LineText → ℕ → List Noted → List Noted
+with_record (Some (record_of made by)) number records =
+    record { made = made; by = by; line = number } ∷ records
+with_record _ number records = records
 
--- the records of lines after those before them, the newest first
-abbrev pub records_after : Header → List Noted → List (List ℕ) → List Noted
-records_after header records [] = records
-records_after header records (line ∷ lines) =
-    records_after header (with_record (line_in header line) records) lines
+-- the records of lines after those before them, the newest first; the first line has the number
+abbrev pub records_after : Header → ℕ → List Noted → List (List ℕ) → List Noted
+records_after header number records [] = records
+records_after header number records (line ∷ lines) =
+    records_after header (number + 1) (with_record (line_in header line) number records) lines
 
 -- the records before the first line that has no form, the newest first
 abbrev pub records_of : Header → List (List ℕ) → List Noted
-records_of header lines = records_after header [] (before_first (has_no_form header) lines)
+records_of header lines = records_after header 2 [] (before_first (has_no_form header) lines)
 
 abbrev pub trace_of : List Noted → Trace
 trace_of records = map (λ r. r.made) records
@@ -73,3 +75,9 @@ abbrev pub note_at : List Noted → ℕ → List ℕ
 note_at [] number = []
 note_at (newest ∷ records) number =
     if number == length (newest ∷ records) then newest.by else note_at records number
+
+-- the line of the record of this number, from 1 on; 0 if there is none
+abbrev pub line_at : List Noted → ℕ → ℕ
+line_at [] number = 0
+line_at (newest ∷ records) number =
+    if number == length (newest ∷ records) then newest.line else line_at records number

@@ -12,11 +12,12 @@ use Rattle.watch_engine.specs.declared.warning.Warning.{Warning}
 use Rattle.watch_engine.specs.Open.{claim_begun}
 use Rattle.watch_engine.specs.Warnings.{AreWarnings, IsDue}
 use Rattle.watch_report.specs.declared.counts.VerdictCounts.{VerdictCounts}
+use Rattle.watch_report.specs.declared.newest.Newest.{Newest}
 use Rattle.watch_report.specs.declared.warning.Trigger.{Trigger}
 use Rattle.watch_report.specs.declared.warning.Trigger.TheVariants.{GivenBack, GivenOut, ClaimedSince, UsedAt}
 use Rattle.watch_report.specs.declared.warning.Warning.{Warning as PrintedWarning}
 use Rattle.watch_report.specs.Warnings.{summary_line, warning_line}
-use Rattle.watch_report.specs.TraceText.{Noted, note_at, trace_of}
+use Rattle.watch_report.specs.TraceText.{Noted, line_at, note_at, trace_of}
 
 -- a verdict is given at some record of the trace, and is new there
 abbrev pub GivesAt : Scheme → Record → Trace → Type 0
@@ -38,48 +39,50 @@ AreGiven scheme (newest ∷ records) (warnings ∷ given) =
 
 -- ---- their lines
 
--- what the kernel does at a record that may have verdicts
-abbrev pub trigger_of : Trace → Record → Option Trigger
-trigger_of trace (GiveBack hart frames) = Some (GivenBack frames)
-trigger_of trace (GiveOut hart frames) = Some (GivenOut frames)
-trigger_of trace (ClaimEnd hart token) =
-    option_map (λ _. ClaimedSince (claim_begun token trace)) (claim_of trace token)
-trigger_of trace (Use hart address) = Some (UsedAt address)
-trigger_of trace _ = None
+-- a claim that ends, and began on this line
+abbrev pub claim_trigger : List Noted → ℕ → Option Trigger
+claim_trigger records token =
+    option_map (λ _. ClaimedSince (line_at records (claim_begun token (trace_of records))))
+    (claim_of (trace_of records) token)
 
--- a warning at the record of this number
-abbrev pub printed_of : ℕ → Trigger → Warning → PrintedWarning
-printed_of number trigger w =
+-- what the kernel does at a record that may have verdicts
+abbrev pub trigger_of : List Noted → Record → Option Trigger
+trigger_of records (GiveBack hart frames) = Some (GivenBack frames)
+trigger_of records (GiveOut hart frames) = Some (GivenOut frames)
+trigger_of records (ClaimEnd hart token) = claim_trigger records token
+trigger_of records (Use hart address) = Some (UsedAt address)
+trigger_of records _ = None
+
+-- a warning at the newest record, with the lines of records
+abbrev pub printed_of : Trigger → Noted → List Noted → Warning → PrintedWarning
+printed_of trigger newest records w =
     record {
-      line = number;
+      line = newest.line;
       hart = w.hart;
       root = w.root;
       entry = w.entry;
-      since = w.stale_since;
+      since = line_at records w.stale_since;
       trigger = trigger;
     }
 
--- a line each, with the notes of the record since which it is stale and of this one
-abbrev pub warning_lines : ℕ → Trigger → List Noted → List ℕ → List Warning → List ℕ
-warning_lines number trigger records by [] = []
-warning_lines number trigger records by (w ∷ warnings) =
-    warning_line [] (printed_of number trigger w) (note_at records w.stale_since) by
-    ++ warning_lines number trigger records by warnings
+-- the next record, with its note and the number of its line
+abbrev pub noted_by : Newest → Noted
+noted_by newest = record { made = newest.made; by = newest.by.now; line = newest.line }
 
-abbrev pub lines_by : Option Trigger → ℕ → List Noted → List ℕ → List Warning → List ℕ
-lines_by None number records by warnings = []
-lines_by (Some trigger) number records by warnings = warning_lines number trigger records by warnings
+-- a line each, with the notes of the record since which it is stale and of the newest one
+abbrev pub warning_lines : List ℕ → Trigger → Noted → List Noted → List Warning → List ℕ
+warning_lines file trigger newest records [] = []
+warning_lines file trigger newest records (w ∷ warnings) =
+    warning_line file (printed_of trigger newest records w) (note_at records w.stale_since) newest.by
+    ++ warning_lines file trigger newest records warnings
 
-abbrev pub record_lines : Noted → List Noted → List Warning → List ℕ
-record_lines newest records warnings =
-    lines_by (trigger_of (trace_of records) newest.made) (length records + 1) records newest.by warnings
+abbrev pub lines_by : List ℕ → Option Trigger → Noted → List Noted → List Warning → List ℕ
+lines_by file None newest records warnings = []
+lines_by file (Some trigger) newest records warnings = warning_lines file trigger newest records warnings
 
--- the lines of the warnings at each record, in the order of the records
-abbrev pub verdict_lines : List Noted → List (List Warning) → List ℕ
-verdict_lines [] given = []
-verdict_lines (newest ∷ records) [] = []
-verdict_lines (newest ∷ records) (warnings ∷ given) =
-    verdict_lines records given ++ record_lines newest records warnings
+abbrev pub record_lines : List ℕ → Noted → List Noted → List Warning → List ℕ
+record_lines file newest records warnings =
+    lines_by file (trigger_of records newest.made) newest records warnings
 
 -- ---- their counts
 
@@ -108,18 +111,3 @@ counts_of kernel (warnings ∷ given) = counts_after kernel (counts_of kernel gi
 abbrev pub summary_of : List Noted → List (List Warning) → List ℕ
 summary_of records given =
     summary_line (length records) (counts_of false given) (counts_of true given)
-
--- ---- the whole
-
--- what is printed of the verdicts on the records
-abbrev pub VerdictText : Scheme → List Noted → List ℕ → Type 0
-VerdictText scheme records text =
-    (given : List (List Warning)) × AreGiven scheme records given
-    × (text ≡ verdict_lines records given)
-
--- and after that the last line; and whether there is a verdict
-abbrev pub WholeText : Scheme → List Noted → Bool → List ℕ → Type 0
-WholeText scheme records some text =
-    (given : List (List Warning)) × AreGiven scheme records given
-    × (text ≡ verdict_lines records given ++ summary_of records given)
-    × (IsTrue some ↔ GivesVerdict scheme (trace_of records))

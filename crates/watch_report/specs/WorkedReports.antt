@@ -1,5 +1,6 @@
 -- Worked reports: what was worked out by hand of a few lines.
 use Rattle.std.specs.Prelude.{◌≡◌, ℕ, Bool, true, false, codes, List, [], ◌∷◌, ◌++◌, Result, Ok, Err, Some}
+use Rattle.pte.specs.declared.scheme.Scheme.TheVariants.{Sv39}
 use Rattle.pte.specs.declared.address.PageSize.TheVariants.{Kib4}
 use Rattle.tlb.specs.declared.store.Entry.{Entry}
 use Rattle.watch.specs.declared.trace.Record.TheVariants.{GiveBack, Store, Use}
@@ -11,12 +12,21 @@ use Rattle.watch_report.specs.declared.fault.ReportFault.TheVariants.{Line, Outp
 use Rattle.watch_report.specs.declared.line_fault.LineReason.TheVariants.{EmptyStart, NoHart, NoTrace}
 use Rattle.watch_report.specs.Ending.{Ends}
 use Rattle.watch_report.specs.LineFaults.{fault_at}
-use Rattle.watch_report.specs.TraceText.{Noted}
-use Rattle.watch_report.specs.VerdictLines.{summary_of, verdict_lines}
+use Rattle.watch_report.specs.Reports.{Told, end_text, told_of, told_text}
+use Rattle.watch_report.specs.TraceText.{Noted, body_of, records_of}
+use Rattle.watch_report.specs.declared.detail.Detail.{Detail}
+use Rattle.watch_report.specs.declared.detail.Detail.TheVariants.{Causes, Counts, Verdicts}
+
+-- a report of the file `a.trace`
+abbrev pub about : Detail → Told
+about detail = told_of detail (codes "a.trace")
 
 -- of a text this is written, before a report ends so
-unfoldable pub Prints : List ℕ → List ℕ → Result Bool ReportFault → Type 0
-Prints text printed result = Ends text result (Some []) (Some printed)
+unfoldable pub PrintsBy : Detail → List ℕ → List ℕ → Result Bool ReportFault → Type 0
+PrintsBy detail text printed result = Ends (about detail) text result (Some []) (Some printed)
+
+abbrev pub Prints : List ℕ → List ℕ → Result Bool ReportFault → Type 0
+Prints text printed result = PrintsBy Verdicts text printed result
 
 -- a record, a mark, a comment and an empty line
 abbrev pub used_once : List ℕ
@@ -26,8 +36,9 @@ used_once = codes "watch 1 2 sv39\nm begin\n# an access\n\nu 1 1000 @here\n"
 abbrev pub hart_too_great : List ℕ
 hart_too_great = codes "watch 1 2 sv39\nu 0 1000\nu 2 1000\nu 0 1000\n"
 
+-- where there is no verdict each detail has the last line alone
 abbrev pub done : Type 0
-done = Prints used_once (codes "1 record, no verdict\n") (Ok false)
+done = (detail : Detail) → PrintsBy detail used_once (codes "1 record, no verdict\n") (Ok false)
 
 abbrev pub done_without_a_feed : Type 0
 done_without_a_feed = Prints (codes "watch 1 2 sv48\nu 1 1000") (codes "1 record, no verdict\n") (Ok false)
@@ -86,36 +97,123 @@ no_last_line_at_a_fault = ¬ Prints hart_too_great [] (Err (Line 3 (fault_at 3 (
 abbrev pub nothing_printed : Type 0
 nothing_printed = ¬ Prints (codes "watch 1 2 sv39") [] (Ok false)
 
--- ---- the lines of verdicts
+-- ---- verdicts
 
-abbrev pub page : Entry
-page = record {
-  asid = 1;
-  global = false;
-  page = record { base = 0x1000; size = Kib4 };
-  ppn = 0x100;
-  flags = record { 0 = 0xD6 };
-}
+-- a comment and an empty line stand before the records, and a mark between them
+abbrev pub unmapped : List ℕ
+unmapped =
+    codes "watch 1 2 sv39\n# hart 1 holds a page\n\nw 0 80000000 0 @unmap\nm free\nz 0 100 1 @free_page\n"
+    ++ codes "u 1 1abc"
 
--- hart 1 may hold the page, which has been stale since the first record
-abbrev pub warning_of : Verdict → Warning
-warning_of verdict = record { verdict = verdict; hart = 1; root = 0x80000; entry = page; stale_since = 1 }
-
--- three records, the newest first; the last two have a verdict each
+-- the records stand on lines 4, 6 and 7; the newest comes first
 abbrev pub records : List Noted
 records =
-    record { made = Use 1 0x1ABC; by = [] }
-    ∷ record { made = GiveBack 0 (record { first = 0x100; count = 1 }); by = codes "free_page" }
-    ∷ record { made = Store 0 0x80000000 0; by = codes "unmap" } ∷ []
+    record { made = Use 1 0x1ABC; by = []; line = 7 }
+    ∷ record { made = GiveBack 0 (record { first = 0x100; count = 1 }); by = codes "free_page"; line = 6 }
+    ∷ record { made = Store 0 0x80000000 0; by = codes "unmap"; line = 4 } ∷ []
 
+abbrev pub lines_of_records : Type 0
+lines_of_records =
+    records_of (record { harts = 2; scheme = Sv39 }) (body_of unmapped) ≡ records
+
+abbrev pub entry_of : Bool → Entry
+entry_of global =
+    record {
+      asid = 1;
+      global = global;
+      page = record { base = 0x1000; size = Kib4 };
+      ppn = 0x100;
+      flags = record { 0 = 0xD6 };
+    }
+
+-- hart 1 may hold the page, which has been stale since the first record
+abbrev pub warning_of : Verdict → Bool → Warning
+warning_of verdict global =
+    record {
+      verdict = verdict;
+      hart = 1;
+      root = 0x80000;
+      entry = entry_of global;
+      stale_since = 1;
+    }
+
+-- the last two records have a verdict each
 abbrev pub given : List (List Warning)
-given = (warning_of Used ∷ []) ∷ (warning_of Free ∷ []) ∷ [] ∷ []
+given = (warning_of Used false ∷ []) ∷ (warning_of Free false ∷ []) ∷ [] ∷ []
+
+-- the second has two, the first of them on a global page
+abbrev pub given_both : List (List Warning)
+given_both = [] ∷ (warning_of Free true ∷ warning_of Free false ∷ []) ∷ [] ∷ []
+
+-- what is told of the records, and at the end
+abbrev pub Says : Detail → List (List Warning) → List ℕ → List ℕ → Type 0
+Says detail given text last =
+    (told_text (about detail) Sv39 records given ≡ text)
+    × (end_text (about detail) Sv39 records given ≡ last)
+
+abbrev pub free_line : List ℕ
+free_line =
+    codes "a.trace:6: free hart 1 may hold page 1000+1000 -> 100 rw-u- asid 1 root 80000, "
+    ++ codes "stale since line 4 by unmap; frames 100+1 given back by free_page\n"
+
+abbrev pub use_line : List ℕ
+use_line =
+    codes "a.trace:7: use hart 1 may hold page 1000+1000 -> 100 rw-u- asid 1 root 80000, "
+    ++ codes "stale since line 4 by unmap; hart 1 uses 1abc\n"
+
+abbrev pub kernel_line : List ℕ
+kernel_line =
+    codes "a.trace:6: kernel-free hart 1 may hold page 1000+1000 -> 100 rw-ug asid any root any, "
+    ++ codes "stale since line 4 by unmap; frames 100+1 given back by free_page\n"
+
+abbrev pub last_line : List ℕ
+last_line = codes "3 records, 2 verdicts: free 1, use 1\n"
 
 abbrev pub lines_of_verdicts : Type 0
-lines_of_verdicts =
-    verdict_lines records given
-    ≡ codes ":2: free hart 1 may hold page 1000+1000 -> 100 rw-u- asid 1 root 80000, stale since line 1 by unmap; frames 100+1 given back by free_page\n"
-    ++ codes ":3: use hart 1 may hold page 1000+1000 -> 100 rw-u- asid 1 root 80000, stale since line 1 by unmap; hart 1 uses 1abc\n"
+lines_of_verdicts = Says Verdicts given (free_line ++ use_line) last_line
 
-abbrev pub last_line : Type 0
-last_line = summary_of records given ≡ codes "3 records, 2 verdicts: free 1, use 1\n"
+-- both verdicts are of one finding
+abbrev pub block_of_cause : List ℕ
+block_of_cause =
+    free_line ++ codes "  cause 1: user pages, first free: no flush of the page had begun\n"
+
+abbrev pub total_of_cause : List ℕ
+total_of_cause =
+    codes "a.trace:6: cause 1: user pages, first free: no flush of the page had begun; "
+    ++ codes "1 finding: free 1, use 1\n"
+
+abbrev pub lines_of_cause : Type 0
+lines_of_cause = Says Causes given block_of_cause (total_of_cause ++ last_line)
+
+-- the kernel's cause begins first, and comes last at the end
+abbrev pub lines_of_causes : Type 0
+lines_of_causes =
+    Says Causes given_both
+    (kernel_line ++ codes "  cause 1: kernel pages, first free: no flush of the page had begun\n"
+    ++ free_line ++ codes "  cause 2: user pages, first free: no flush of the page had begun\n")
+    (codes "a.trace:6: cause 2: user pages, first free: no flush of the page had begun; 1 finding: free 1\n"
+    ++ codes "a.trace:6: cause 1: kernel pages, first free: no flush of the page had begun; 1 finding: free 1\n"
+    ++ codes "3 records, 2 verdicts: free 1, kernel-free 1\n")
+
+abbrev pub counts_alone : Type 0
+counts_alone = Says Counts given [] last_line
+
+-- what is not told: the number of a record in place of its line, a cause without a block, or without a
+-- line at the end, a block where counts are wanted
+abbrev pub numbers_of_records : Type 0
+numbers_of_records =
+    ¬ Says Verdicts given
+    (codes "a.trace:2: free hart 1 may hold page 1000+1000 -> 100 rw-u- asid 1 root 80000, "
+    ++ codes "stale since line 1 by unmap; frames 100+1 given back by free_page\n"
+    ++ codes "a.trace:3: use hart 1 may hold page 1000+1000 -> 100 rw-u- asid 1 root 80000, "
+    ++ codes "stale since line 1 by unmap; hart 1 uses 1abc\n")
+    last_line
+
+abbrev pub no_block : Type 0
+no_block = ¬ Says Causes given [] (total_of_cause ++ last_line)
+
+abbrev pub no_total : Type 0
+no_total = ¬ Says Causes given block_of_cause last_line
+
+abbrev pub block_of_counts : Type 0
+block_of_counts = ¬ Says Counts given block_of_cause last_line

@@ -3,7 +3,7 @@ ghost use Rattle.std.specs.Prelude.{◌≡◌, ◌<◌, ◌≤◌, ◌++◌, Lis
 ghost use Rattle.std.specs.List.{Contains};
 ghost use Rattle.pte.specs.declared.scheme.Scheme.{Scheme};
 ghost use Rattle.watch.specs.declared.trace.Record.{Record};
-ghost use Rattle.watch.specs.Trace.{Trace, hart_of};
+ghost use Rattle.watch.specs.Trace.{hart_of};
 ghost use Rattle.watch_engine.specs.declared.warning.Warning.{Warning};
 ghost use Rattle.watch_engine.specs.Warnings.{AreWarnings};
 ghost use Rattle.watch_report.specs.declared.header.Header.{Header};
@@ -13,7 +13,7 @@ ghost use Rattle.watch_report.specs.RecordLines.{note_text, record_text};
 ghost use Rattle.watch_report.specs.Fields.{fields_of};
 ghost use Rattle.watch_report.specs.LineFaults.{fault_of, header_fault};
 ghost use Rattle.watch_report.specs.TraceLines.{header_in, line_in, record_of};
-ghost use Rattle.watch_report.specs.TraceText.{has_no_form};
+ghost use Rattle.watch_report.specs.TraceText.{has_no_form, Noted, trace_of};
 ghost use Rattle.watch_report.specs.VerdictLines.{trigger_of};
 ghost use Rattle.watch_report.specs.Warnings.{verdict_of};
 
@@ -36,11 +36,12 @@ pub fn line_has_a_fault_or_a_form()
 /// Each warning at a record has its line, and the line the verdict that is counted: a record of which
 /// nothing is printed has no warning, and of the others the printed verdict is that of the warning.
 pub fn each_warning_is_printed()
-    ensures silent { (scheme : Scheme) (newest : Record) (trace : Trace) (warnings : List Warning)
-        → AreWarnings scheme newest trace warnings → trigger_of trace newest ≡ None
-        → warnings ≡ [] }
-    ensures verdict { (scheme : Scheme) (newest : Record) (trace : Trace) (warnings : List Warning)
-        (trigger : Trigger) (w : Warning) → AreWarnings scheme newest trace warnings
-        → trigger_of trace newest ≡ Some trigger → Contains warnings w
+    ensures silent { (scheme : Scheme) (newest : Record) (records : List Noted)
+        (warnings : List Warning) → AreWarnings scheme newest (trace_of records) warnings
+        → trigger_of records newest ≡ None → warnings ≡ [] }
+    ensures verdict { (scheme : Scheme) (newest : Record) (records : List Noted)
+        (warnings : List Warning) (trigger : Trigger) (w : Warning)
+        → AreWarnings scheme newest (trace_of records) warnings
+        → trigger_of records newest ≡ Some trigger → Contains warnings w
         → w.verdict ≡ verdict_of trigger }
 {}

@@ -1,14 +1,17 @@
 //! The lines of a trace for `watch`, text to records and back, and the verdicts on it, from any
 //! reader to any writer.
 //!
-//! `report_trace` reads the lines of a trace, and writes a line for each verdict as soon as its record
-//! is read, and a last one with counts. Of what was read it keeps what the watch keeps, and the notes.
+//! `report_trace` reads the lines of a trace, and writes a line for each verdict or a block for each
+//! cause as soon as its record is read, and a last line with counts. Of what was read it keeps what the
+//! watch keeps, the notes, the lines of records, and, where they are told, the causes.
 #![tactic(auto)]
 
+mod blocks;
 mod bytes;
 mod cause_line;
 mod counting;
 mod counts;
+mod detail;
 mod emit;
 mod fault;
 mod fields;
@@ -19,15 +22,19 @@ mod laws;
 mod line;
 mod line_fault;
 mod line_form;
+mod lines;
+mod newest;
 mod notes;
 mod numbers;
 mod output;
+mod past;
 mod push;
 mod reading;
 mod reading_fault;
 mod record;
 mod report;
 mod retry;
+mod telling;
 mod texts;
 mod trigger;
 mod verdicts;
@@ -40,6 +47,7 @@ mod worked_reports;
 
 pub use cause_line::{NumberedTally, in_order, push_block, push_total};
 pub use counts::{VerdictCounts, push_summary};
+pub use detail::Detail;
 pub use emit::push_record;
 pub use fault::ReportFault;
 pub use find_fault::{find_header_fault, find_line_fault};
@@ -59,4 +67,4 @@ pub use worked_lines::{
     worked_headers, worked_readings, worked_records, worked_refusals, worked_summaries,
     worked_warnings,
 };
-pub use worked_reports::{refused_endings, worked_endings, worked_texts};
+pub use worked_reports::{refused_endings, refused_texts, worked_endings, worked_texts};

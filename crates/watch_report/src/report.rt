@@ -3,9 +3,11 @@ ghost use Rattle.std.specs.Prelude.{ℕ, List, IfSome, ◌≡◌, Ok, None, fals
 ghost use Rattle.watch_report.specs.Ending.{Ends, EndsBy, IsLine};
 ghost use Rattle.watch_report.specs.Fields.{fields_of};
 ghost use Rattle.watch_report.specs.LineFaults.{fault_of, header_fault};
+ghost use Rattle.watch_report.specs.Reports.{told_of};
 ghost use Rattle.watch_report.specs.TraceLines.{header_in};
 ghost use Rattle.watch_report.specs.TraceText.{has_no_form, lines_of};
 
+use crate::detail::Detail;
 use crate::fault::ReportFault;
 use crate::find_fault::{find_header_fault, find_line_fault};
 use crate::header::{Header, read_header};
@@ -48,25 +50,28 @@ fn fault_of_line(header: Header, number: u64, line: &[u8], warned: bool) -> Repo
 /// Reports the lines after the header. `line` is room for one of them.
 fn report_lines<R: BufRead, W: Write>(
     alloc: Global,
+    detail: Detail,
+    file: &[u8],
     header: Header,
     input: &mut R,
     line: &mut Vec<u8>,
     out: &mut W,
 ) -> Result<bool, ReportFault>
     ensures { (text : List ℕ) × IfSome (R.remaining input.old) (λ left. text ≡ left)
-        × EndsBy (Ok header) (lines_of text) result (W.contents out.old) (W.contents out.new) }
+        × EndsBy (told_of detail file.now) (Ok header) (lines_of text) result
+        (W.contents out.old) (W.contents out.new) }
 {
-    let mut reading = Reading::new(alloc, header);
+    let mut reading = Reading::new(alloc, detail, header);
     for number in 2..u64::MAX {
         let more = read_line(input, line)?;
         let text = line.as_slice();
-        let taken = reading.take_line(text, out)?;
+        let taken = reading.take_line(file, number, text, out)?;
         if !taken {
-            let warned = reading.finish(out)?;
+            let warned = reading.finish(file, out)?;
             return Err(fault_of_line(header, number, text, warned));
         }
         if !more {
-            let some = reading.finish(out)?;
+            let some = reading.finish(file, out)?;
             return Ok(some);
         }
     }
@@ -76,11 +81,13 @@ fn report_lines<R: BufRead, W: Write>(
 /// Reports a trace, of which no line was read.
 fn report_all<R: BufRead, W: Write>(
     alloc: Global,
+    detail: Detail,
+    file: &[u8],
     input: &mut R,
     out: &mut W,
 ) -> Result<bool, ReportFault>
     ensures { (text : List ℕ) × IfSome (R.remaining input.old) (λ left. text ≡ left)
-        × Ends text result (W.contents out.old) (W.contents out.new) }
+        × Ends (told_of detail file.now) text result (W.contents out.old) (W.contents out.new) }
 {
     let mut line = Vec::new(alloc);
     let more = read_line(input, &mut line)?;
@@ -89,28 +96,30 @@ fn report_all<R: BufRead, W: Write>(
         return Err(first_line_fault(text));
     };
     if !more {
-        let some = Reading::new(alloc, header).finish(out)?;
+        let some = Reading::new(alloc, detail, header).finish(file, out)?;
         return Ok(some);
     }
-    report_lines(alloc, header, input, &mut line, out)
+    report_lines(alloc, detail, file, header, input, &mut line, out)
 }
 
-/// Reads a trace to its end, and writes a line for each verdict as soon as its record is read, and a
-/// last one with counts. Whether there was a verdict.
+/// Reads a trace to its end, from the file of this name. Writes what the detail asks for as soon as a
+/// record is read, and the last lines. Whether there was a verdict.
 ///
 /// What was written before a fault stays. At `Line` it is all that of the records before the line, with
-/// the last line, or nothing if it is the first. At the others it is the lines of the verdicts on some of
-/// the records, from the first on, or of `Output` a beginning of them or of all that.
+/// the last lines, or nothing if it is the first. At the others it is what is told of some of the
+/// records, from the first on, or of `Output` a beginning of that or of all.
 pub fn report_trace<R: Read + Drop, W: Write>(
     alloc: Global,
+    detail: Detail,
+    file: &str,
     input: R,
     out: &mut W,
 ) -> Result<bool, ReportFault>
     ensures { (text : List ℕ) × IfSome (R.remaining input) (λ left. text ≡ left)
-        × Ends text result (W.contents out.old) (W.contents out.new) }
+        × Ends (told_of detail file.now) text result (W.contents out.old) (W.contents out.new) }
 {
     let Ok(mut reader) = BufReader::new(alloc, Retrying { inner: input }) else {
         return Err(ReportFault::NoMemory);
     };
-    report_all(alloc, &mut reader, out)
+    report_all(alloc, detail, file.as_bytes(), &mut reader, out)
 }

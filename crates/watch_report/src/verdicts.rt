@@ -1,23 +1,31 @@
 //! The lines of warnings.
 ghost use Rattle.std.specs.Prelude.{◌≡◌, ◌++◌, List, IfOk, OnOk};
-ghost use Rattle.watch_report.specs.NoteTexts.{AreNotes};
+ghost use Rattle.watch_report.specs.Past.{ArePast};
 ghost use Rattle.watch_report.specs.TraceText.{Noted};
-ghost use Rattle.watch_report.specs.VerdictLines.{lines_by, printed_of, warning_lines};
+ghost use Rattle.watch_report.specs.VerdictLines.{lines_by, noted_by, printed_of, warning_lines};
 
-use crate::notes::Notes;
+use crate::newest::Newest;
+use crate::past::Past;
 use crate::warning::{Trigger, push_warning};
 use std::alloc::{AllocError, Global};
 use watch_engine::Warning;
 
-fn printed(number: u64, trigger: Trigger, warning: &Warning) -> crate::warning::Warning
-    ensures { result ≡ printed_of number trigger warning.now }
+/// A warning at the newest record, with lines in place of the numbers of records.
+pub(crate) fn printed(
+    trigger: Trigger,
+    newest: &Newest<'_>,
+    past: &Past,
+    warning: &Warning,
+) -> crate::warning::Warning
+    ensures { (records : List Noted) → ArePast records past.now
+        → result ≡ printed_of trigger (noted_by newest.now) records warning.now }
 {
     crate::warning::Warning {
-        line: number,
+        line: newest.line,
         hart: warning.hart,
         root: warning.root,
         entry: warning.entry,
-        since: warning.stale_since,
+        since: past.line(warning.stale_since),
         trigger,
     }
 }
@@ -25,39 +33,40 @@ fn printed(number: u64, trigger: Trigger, warning: &Warning) -> crate::warning::
 /// Adds the lines of warnings.
 fn push_warnings(
     text: &mut Vec<u8>,
-    number: u64,
+    file: &[u8],
     trigger: Trigger,
-    notes: &Notes,
-    by: &[u8],
+    newest: &Newest<'_>,
+    past: &Past,
     warnings: &[Warning],
 ) -> Result<(), AllocError>
-    ensures ok { (records : List Noted) → AreNotes records notes.now → OnOk result
+    ensures ok { (records : List Noted) → ArePast records past.now → OnOk result
         (text.new.items ≡ text.old.items
-        ++ warning_lines number trigger records by.now warnings.now) }
+        ++ warning_lines file.now trigger (noted_by newest.now) records warnings.now) }
 {
     for warning in warnings {
-        let stale_by = notes.of(warning.stale_since);
-        push_warning(text, b"", &printed(number, trigger, warning), stale_by, by)?;
+        let stale_by = past.note(warning.stale_since);
+        let printed = printed(trigger, newest, past, warning);
+        push_warning(text, file, &printed, stale_by, newest.by)?;
     }
     Ok(())
 }
 
-/// The lines of the warnings at a record, which has this number and this note, after records with
-/// these notes.
-pub fn lines_by(
+/// The lines of the warnings at the newest record, after others.
+pub(crate) fn lines_by(
     alloc: Global,
+    file: &[u8],
     trigger: Option<Trigger>,
-    number: u64,
-    notes: &Notes,
-    by: &[u8],
+    newest: &Newest<'_>,
+    past: &Past,
     warnings: &[Warning],
 ) -> Result<Vec<u8>, AllocError>
-    ensures { (records : List Noted) → AreNotes records notes.now → IfOk result
-        (λ text. text.items ≡ lines_by trigger number records by.now warnings.now) }
+    ensures { (records : List Noted) → ArePast records past.now → IfOk result
+        (λ text. text.items
+        ≡ lines_by file.now trigger (noted_by newest.now) records warnings.now) }
 {
     let mut text = Vec::new(alloc);
     if let Some(trigger) = trigger {
-        push_warnings(&mut text, number, trigger, notes, by, warnings)?;
+        push_warnings(&mut text, file, trigger, newest, past, warnings)?;
     }
     Ok(text)
 }

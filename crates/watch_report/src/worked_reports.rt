@@ -30,9 +30,21 @@ pub fn refused_endings()
     ensures nothing_printed { reports.nothing_printed }
 {}
 
-/// The lines of two verdicts, and the last line.
+/// What is told of two verdicts, in each detail.
 #[tactic(auto, using(crate::proofs::WorkedReports::texts))]
 pub fn worked_texts()
+    ensures lines_of_records { reports.lines_of_records }
     ensures lines_of_verdicts { reports.lines_of_verdicts }
-    ensures last_line { reports.last_line }
+    ensures lines_of_cause { reports.lines_of_cause }
+    ensures lines_of_causes { reports.lines_of_causes }
+    ensures counts_alone { reports.counts_alone }
+{}
+
+/// What is not told of them.
+#[tactic(auto, using(crate::proofs::WorkedReports::refused))]
+pub fn refused_texts()
+    ensures numbers_of_records { reports.numbers_of_records }
+    ensures no_block { reports.no_block }
+    ensures no_total { reports.no_total }
+    ensures block_of_counts { reports.block_of_counts }
 {}

@@ -1,0 +1,131 @@
+//! The blocks of causes, and their lines at the end.
+ghost use Rattle.std.specs.Prelude.{◌≡◌, ◌++◌, ◌+◌, ◌∷◌, List, IfOk, OnOk, drop, length};
+ghost use Rattle.watch.specs.Trace.{Trace};
+ghost use Rattle.watch_causes.specs.Causes.{HasSeen};
+ghost use Rattle.watch_causes.specs.Judging.{verdicts_of};
+ghost use Rattle.watch_causes.specs.Tallies.{tallies_of};
+ghost use Rattle.watch_engine.specs.declared.warning.Warning.{Warning as WarningOf};
+ghost use Rattle.watch_report.specs.CauseLines.{ordered};
+ghost use Rattle.watch_report.specs.Past.{ArePast};
+ghost use Rattle.watch_report.specs.Reports.{block_lines, blocks_by, record_blocks, total_lines};
+ghost use Rattle.watch_report.specs.TraceText.{Noted, trace_of};
+ghost use Rattle.watch_report.specs.VerdictLines.{noted_by, trigger_of};
+
+use crate::cause_line::{NumberedTally, in_order, push_block, push_total};
+use crate::newest::Newest;
+use crate::past::Past;
+use crate::verdicts::printed;
+use crate::warning::Trigger;
+use std::alloc::{AllocError, Global};
+use watch_causes::{Causes, Tally};
+use watch_engine::Warning;
+
+/// Adds a block for each tally behind the first so many, at the record of its first verdict.
+fn push_blocks(
+    text: &mut Vec<u8>,
+    file: &[u8],
+    trigger: Trigger,
+    newest: &Newest<'_>,
+    past: &Past,
+    before: usize,
+    tallies: &[Tally],
+) -> Result<(), AllocError>
+    ensures ok { (records : List Noted) → ArePast records past.now → OnOk result
+        (text.new.items ≡ text.old.items ++ block_lines file.now (before + 1) trigger
+        (noted_by newest.now) records (drop before tallies.now)) }
+{
+    let mut place = before;
+    while place < tallies.len() {
+        let tally = &tallies[place];
+        let warning = &tally.example.warning;
+        push_block(
+            text,
+            file,
+            place as u64 + 1,
+            &tally.cause,
+            &printed(trigger, newest, past, warning),
+            past.note(warning.stale_since),
+            newest.by,
+        )?;
+        place += 1;
+    }
+    Ok(())
+}
+
+/// The blocks for the tallies behind the first so many.
+fn blocks_by(
+    alloc: Global,
+    file: &[u8],
+    trigger: Option<Trigger>,
+    newest: &Newest<'_>,
+    past: &Past,
+    before: usize,
+    tallies: &[Tally],
+) -> Result<Vec<u8>, AllocError>
+    ensures { (records : List Noted) → ArePast records past.now → IfOk result
+        (λ text. text.items ≡ blocks_by file.now (before + 1) trigger (noted_by newest.now) records
+        (drop before tallies.now)) }
+{
+    let mut text = Vec::new(alloc);
+    if let Some(trigger) = trigger {
+        push_blocks(&mut text, file, trigger, newest, past, before, tallies)?;
+    }
+    Ok(text)
+}
+
+/// Takes the next record, and answers a block for each cause that begins there. There are never too
+/// many records: the watch takes none that the causes do not.
+pub(crate) fn blocks_at(
+    causes: &mut Causes,
+    alloc: Global,
+    file: &[u8],
+    trigger: Option<Trigger>,
+    newest: &Newest<'_>,
+    past: &Past,
+    warnings: &[Warning],
+) -> Result<Vec<u8>, AllocError>
+    ensures scheme { causes.new.scheme ≡ causes.old.scheme }
+    ensures text { (records : List Noted) (given : List (List WarningOf))
+        → trigger ≡ trigger_of records newest.now.made → ArePast records past.now
+        → HasSeen (trace_of records) given causes.old → IfOk result (λ text. text.items
+        ≡ record_blocks file.now causes.old.scheme (noted_by newest.now) records warnings.now given) }
+    ensures seen { (trace : Trace) (given : List (List WarningOf)) → HasSeen trace given causes.old
+        → OnOk result (HasSeen (newest.now.made ∷ trace) (warnings.now ∷ given) causes.new) }
+{
+    let before = causes.tallies().len();
+    match causes.record(newest.made, warnings) {
+        Ok(()) => blocks_by(alloc, file, trigger, newest, past, before, causes.tallies()),
+        Err(_) => Err(AllocError),
+    }
+}
+
+/// Adds the lines of causes in this order.
+fn push_each(
+    text: &mut Vec<u8>,
+    file: &[u8],
+    past: &Past,
+    ones: &[NumberedTally],
+) -> Result<(), AllocError>
+    ensures ok { (records : List Noted) → ArePast records past.now → OnOk result
+        (text.new.items ≡ text.old.items ++ total_lines file.now records ones.now) }
+{
+    for one in ones {
+        push_total(text, file, past.line(one.tally.example.number), one)?;
+    }
+    Ok(())
+}
+
+/// Adds a line for each cause, in the order of the end.
+pub(crate) fn push_totals(
+    alloc: Global,
+    text: &mut Vec<u8>,
+    file: &[u8],
+    past: &Past,
+    tallies: &[Tally],
+) -> Result<(), AllocError>
+    ensures ok { (records : List Noted) → ArePast records past.now → OnOk result
+        (text.new.items ≡ text.old.items ++ total_lines file.now records (ordered tallies.now)) }
+{
+    let ones = in_order(alloc, tallies)?;
+    push_each(text, file, past, ones.as_slice())
+}
