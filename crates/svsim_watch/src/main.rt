@@ -16,7 +16,7 @@ const DONE: u8 = 0;
 /// There is a verdict.
 const WARNED: u8 = 1;
 
-/// A line is none of a trace, and there is no verdict before it.
+/// A line is wrong, and there is no verdict before it.
 const REFUSED: u8 = 3;
 
 /// The whole program has to answer.
