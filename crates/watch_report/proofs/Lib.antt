@@ -26,6 +26,7 @@ pub mod WorkedReports
 mod TextLemmas
 mod NoteLemmas
 mod RunLemmas
+pub mod StandingLemmas
 mod BlockLemmas
 pub mod FaultLaws
 pub mod WorkedFaults

@@ -103,7 +103,7 @@ more_taken header read number line records e at formed =
       are = λ after.
           let next : length read + 2 + 1 ≡ length (read ++ line ∷ []) + 2 = omega (arith, length-append read (line ∷ [])) in
           ap (records_after header 2 []) (append_assoc read (line ∷ []) after) ∙ at.are (line ∷ after)
-              ∙ (λ j. records_after header (next j) (with_record (line_in header line) (sym e j) records) after);
+          ∙ (λ j. records_after header (next j) (with_record (line_in header line) (sym e j) records) after);
     }
 
 pub all_formed : (header : Header) (read : List (List ℕ)) (records : List Noted) → AreTaken header read records → position_or_len (has_no_form header) read ≡ length read

@@ -113,7 +113,7 @@ same_runs records count runs newest d are is =
       line = λ number some most.
           let last : number ≡ suc (length records) → line_by 0 runs number ≡ newest.line =
           λ at. line_by_place d runs (length runs) number (all_before records count runs number are (omega (arith, at))) (omega arith)
-              ∙ ap (behind d runs (length runs)) (omega (arith, at, are.count_is)) ∙ is in
+          ∙ ap (behind d runs (length runs)) (omega (arith, at, are.count_is)) ∙ is in
           line_after runs records newest number last (λ before. are.line number some before) most (eqb_tells number (suc (length records)));
     }
 

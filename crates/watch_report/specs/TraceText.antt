@@ -1,5 +1,5 @@
 -- What the text of a trace says, line by line.
-use Rattle.std.specs.Prelude.{ℕ, Bool, ◌==◌, ◌+◌, ◌-◌, List, [], ◌∷◌, drop, get_or, length, map, if◌then◌else◌}
+use Rattle.std.specs.Prelude.{ℕ, Bool, ◌==◌, ◌+◌, ◌-◌, ◌≡◌, ◌≤◌, List, [], ◌∷◌, drop, get_or, length, map, if◌then◌else◌}
 use Rattle.std.specs.Prelude.{Option, Some, None, option_map, Result, Ok, Err}
 use Rattle.std.specs.List.{before_first, position, slice_split}
 use Rattle.std.specs.Option.{is_none}
@@ -81,3 +81,8 @@ abbrev pub line_at : List Noted → ℕ → ℕ
 line_at [] number = 0
 line_at (newest ∷ records) number =
     if number == length (newest ∷ records) then newest.line else line_at records number
+
+-- its line is one of those after the header, and says the record and the note
+abbrev pub StandsOnLine : Header → List (List ℕ) → Noted → Type 0
+StandsOnLine header lines r =
+    (2 ≤ r.line) × (line_in header (get_or lines (r.line - 2) []) ≡ Some (record_of r.made r.by))

@@ -13,7 +13,7 @@ ghost use Rattle.watch_report.specs.RecordLines.{note_text, record_text};
 ghost use Rattle.watch_report.specs.Fields.{fields_of};
 ghost use Rattle.watch_report.specs.LineFaults.{fault_of, header_fault};
 ghost use Rattle.watch_report.specs.TraceLines.{header_in, line_in, record_of};
-ghost use Rattle.watch_report.specs.TraceText.{has_no_form, Noted, trace_of};
+ghost use Rattle.watch_report.specs.TraceText.{has_no_form, Noted, records_of, StandsOnLine, trace_of};
 ghost use Rattle.watch_report.specs.VerdictLines.{trigger_of};
 ghost use Rattle.watch_report.specs.Warnings.{verdict_of};
 
@@ -31,6 +31,12 @@ pub fn line_has_a_fault_or_a_form()
         → is_some (fault_of header text) ≡ has_no_form header text }
     ensures first { (text : List ℕ)
         → is_some (header_fault text) ≡ is_none (header_in (fields_of text)) }
+{}
+
+/// Each record has the number of the line of the file that says it, where the header is line 1.
+pub fn record_stands_on_its_line()
+    ensures { (header : Header) (lines : List (List ℕ)) (r : Noted)
+        → Contains (records_of header lines) r → StandsOnLine header lines r }
 {}
 
 /// Each warning at a record has its line, and the line the verdict that is counted: a record of which

@@ -52,7 +52,10 @@ pub use emit::push_record;
 pub use fault::ReportFault;
 pub use find_fault::{find_header_fault, find_line_fault};
 pub use header::{Header, read_header};
-pub use laws::{each_warning_is_printed, line_has_a_fault_or_a_form, printed_record_is_read};
+pub use laws::{
+    each_warning_is_printed, line_has_a_fault_or_a_form, printed_record_is_read,
+    record_stands_on_its_line,
+};
 pub use line::{Line, read_line};
 pub use line_fault::{LineFault, LineReason};
 pub use line_form::{Field, LineForm};

@@ -1,5 +1,5 @@
 //! The lines that records stand on, for the lines of later verdicts.
-ghost use Rattle.std.specs.Prelude.{◌≡◌, ◌≤◌, ◌∷◌, List, [], OnErr, OnOk, length};
+ghost use Rattle.std.specs.Prelude.{◌≡◌, ◌≤◌, ◌+◌, ◌∷◌, List, [], OnErr, OnOk, length};
 ghost use Rattle.std.specs.List.Sorted.{IsNonDecreasingBy, IsPartitionPoint};
 ghost use Rattle.watch_report.specs.LineNumbers.{AreLines, behind, EndsBefore, line_from};
 ghost use Rattle.watch_report.specs.TraceText.{Noted, line_at};
@@ -64,10 +64,13 @@ impl Lines {
         }
     }
 
-    /// With the line of the next record.
+    /// With the line of the next record: one right behind the last run begins no other.
     pub(crate) fn add(&mut self, line: u64) -> Result<(), AllocError>
         ensures ok { (records : List Noted) (newest : Noted) → AreLines records self.old
             → newest.line ≡ line → OnOk result (AreLines (newest ∷ records) self.new) }
+        ensures same_run { (d : RunOf) → line ≡ behind d self.old.runs.items
+            (length self.old.runs.items) (self.old.count + 1)
+            → self.new.runs.items ≡ self.old.runs.items }
         ensures err_count { OnErr result (self.new.count ≡ self.old.count) }
         ensures err_runs { OnErr result (self.new.runs.items ≡ self.old.runs.items) }
     {

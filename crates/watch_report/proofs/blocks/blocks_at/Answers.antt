@@ -14,8 +14,8 @@ returns-in-Ok-clause-text c = λ records given trigger past seen.
     let before : c.tallies-before.result.now ≡ tallies_after scheme records given = c.tallies-before.ensures (trace_of records) given seen in
     let after : c.tallies.result.now ≡ tallies_after scheme (newest ∷ records) (warnings ∷ given) =
     c.tallies.ensures (newest.made ∷ trace_of records) (warnings ∷ given) (c.in-Ok.ensures.ok (trace_of records) given seen)
-        ∙ ap (λ (s : Scheme). tallies_after s (newest ∷ records) (warnings ∷ given)) c.record.ensures.scheme in
+    ∙ ap (λ (s : Scheme). tallies_after s (newest ∷ records) (warnings ∷ given)) c.record.ensures.scheme in
     let same : blocks_by file (length c.tallies-before.result.now + 1) c.args.trigger newest records (drop (length c.tallies-before.result.now) c.tallies.result.now)
-        ≡ record_blocks file scheme newest records warnings given =
+    ≡ record_blocks file scheme newest records warnings given =
     λ j. blocks_by file (length (before j) + 1) (trigger j) newest records (drop (length (before j)) (after j)) in
     subst (λ (l : List ℕ). IfOk c.blocks_by.result (λ text. text.items ≡ l)) same (c.blocks_by.ensures records past)

@@ -15,7 +15,7 @@ returns-in-Ok-clause-ok g c = λ detail start records at.
     let totals = totals_by detail file r.header.scheme records at.given in
     let last : c.as_slice.result.now ≡ totals ++ summary =
     c.as_slice.ensures.value ∙ c.in_ok-push_summary.ensures.ok
-        ∙ ap (λ (l : List ℕ). l ++ summary) (c.in_ok-push_end.ensures detail r.header.scheme records at.given at.seen.past at.seen.telling ∙ ap (λ (l : List ℕ). l ++ totals) c.new-text.ensures.items) in
+    ∙ ap (λ (l : List ℕ). l ++ summary) (c.in_ok-push_end.ensures detail r.header.scheme records at.given at.seen.past at.seen.telling ∙ ap (λ (l : List ℕ). l ++ totals) c.new-text.ensures.items) in
     let whole = whole_text (told_of detail file) r.header.scheme records at.given c.has_verdicts.result r.user r.kernel r.records at.seen.are c.has_verdicts.ensures at.seen.user at.seen.kernel at.seen.number in
     (_, whole, Appends-trans start _ _ _ _ at.written (subst (Appends _ _) last c.in-Ok.ensures.ok))
 
@@ -27,6 +27,6 @@ returns-clause-err g c = λ detail start records at.
     let totals = totals_by detail file r.header.scheme records at.given in
     let last : c.as_slice.result.now ≡ totals ++ summary =
     c.as_slice.ensures.value ∙ c.in_ok-push_summary.ensures.ok
-        ∙ ap (λ (l : List ℕ). l ++ summary) (c.in_ok-push_end.ensures detail r.header.scheme records at.given at.seen.past at.seen.telling ∙ ap (λ (l : List ℕ). l ++ totals) c.new-text.ensures.items) in
+    ∙ ap (λ (l : List ℕ). l ++ summary) (c.in_ok-push_end.ensures detail r.header.scheme records at.given at.seen.past at.seen.telling ∙ ap (λ (l : List ℕ). l ++ totals) c.new-text.ensures.items) in
     let whole = whole_text (told_of detail file) r.header.scheme records at.given _ r.user r.kernel r.records at.seen.are refl at.seen.user at.seen.kernel at.seen.number in
     fails_at_end (told_of detail file) (Err c.in-Err.fault) _ records _ _ _ start _ _ whole at.written c.in-Err.ensures.fault (subst (AppendsFront _ _) last c.in-Err.ensures.err)

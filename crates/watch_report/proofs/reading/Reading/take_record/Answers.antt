@@ -1,4 +1,4 @@
-use Rattle.std.proofs.Common.{true, false, ◌≡◌, ◌+◌, ◌∷◌, refl, List, ap, subst, ◌∙◌}
+use Rattle.std.proofs.Common.{true, false, ◌≡◌, ◌∷◌, refl, List, ap, subst, ◌∙◌}
 use Rattle.std.specs.Io.KnownBytes.{Appends}
 use Rattle.std.proofs.KnownBytes.{Appends-trans}
 use Rattle.std.proofs.lemmas.Result.{on_ok_weaker, on_err_weaker}
@@ -22,7 +22,7 @@ returns-clause-ok g c = λ detail start records at.
     let trigger = c.trigger_of-trigger.ensures records at.seen.follows at.seen.past in
     let text : c.as_slice-3.result.now ≡ told_at detail file scheme newest records warnings at.given =
     c.as_slice-3.ensures.value ∙ c.in_ok-text.ensures.text detail scheme records at.given trigger at.seen.past at.seen.telling
-        ∙ ap (λ (w : List Warning). told_at detail file scheme newest records w at.given) c.as_slice-2.ensures.value in
+    ∙ ap (λ (w : List Warning). told_at detail file scheme newest records w at.given) c.as_slice-2.ensures.value in
     let telling = subst (λ (w : List Warning). IsTelling detail scheme (newest ∷ records) (w ∷ at.given) c.at_record.new.self) c.as_slice-2.ensures.value (c.in_ok-text.ensures.telling detail scheme records at.given at.seen.telling) in
     let seen = seen_more detail c.args.self.now _ records at.given newest warnings at.seen refl c.record.ensures.scheme
     (c.in_ok-warnings.ensures.ok (trace_of records) at.seen.follows)
@@ -47,7 +47,7 @@ returns-clause-err g c = λ detail start records at.
     let trigger = c.trigger_of-trigger.ensures records at.seen.follows at.seen.past in
     let text : c.as_slice-3.result.now ≡ told_at detail file scheme newest records warnings at.given =
     c.as_slice-3.ensures.value ∙ c.in_ok-text.ensures.text detail scheme records at.given trigger at.seen.past at.seen.telling
-        ∙ ap (λ (w : List Warning). told_at detail file scheme newest records w at.given) c.as_slice-2.ensures.value in
+    ∙ ap (λ (w : List Warning). told_at detail file scheme newest records w at.given) c.as_slice-2.ensures.value in
     fails_at_record (told_of detail file) c.write_whole.result _ newest records at.given warnings start _ _
     (subst (λ (s : Scheme). AreWarnings s newest.made (trace_of records) warnings) at.seen.scheme (c.in_ok-warnings.ensures.warnings (trace_of records) at.seen.follows))
     at.seen.are at.written c.write_whole.ensures.fault
