@@ -50,10 +50,7 @@ fn is_option(word: &str) -> bool {
 fn is_of_trace(words: &Result<Vec<String>, NoWords>) -> bool {
     match words {
         Ok(words) => {
-            let word = words
-                .iter()
-                .skip(1)
-                .find(|word| !is_option(word.as_str()));
+            let word = words.iter().skip(1).find(|word| !is_option(word.as_str()));
             word.is_some_and(|word| word.as_str() == "watch")
         }
         Err(_) => false,

@@ -133,5 +133,6 @@ pub const TRACE: &str = "watch 1 2 sv39\n\
     z 0 100 1\n";
 
 /// What `watch_command` prints of it, under the name `a trace`.
-pub const VERDICTS: &str = "a trace:9: free hart 1 may hold page 1000+1000 -> 100 rw-u- asid 1 root \
+pub const VERDICTS: &str =
+    "a trace:9: free hart 1 may hold page 1000+1000 -> 100 rw-u- asid 1 root \
     80000, stale since line 6 by unmap; frames 100+1 given back\n8 records, 1 verdict: free 1\n";

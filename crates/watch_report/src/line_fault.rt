@@ -64,14 +64,21 @@ pub enum LineReason {
 }
 
 const EMPTY_START: &str = "the first line is empty: a trace begins with watch 1 HARTS SCHEME";
+
 const NO_TRACE: &str =
     "no trace, which begins with watch 1 HARTS SCHEME (a scenario is for svsim run)";
+
 const BYTE_ORDER_MARK: &str = "a byte order mark: a trace begins with watch 1 HARTS SCHEME";
+
 const CARRIAGE_RETURN: &str = "a carriage return: lines end in a line feed alone";
+
 const TAB: &str = "a tab: one space stands between two fields";
+
 const SPACE: &str = "a space too many: one stands between two fields, and none at the ends";
+
 const OTHER_LETTER: &str =
     "no line begins so: a record has one of the letters a c d e f r s u w z, a mark is m TEXT";
+
 const TOO_LONG: &str = "too long: a number has 1 to 16 digits";
 
 /// A number as lines write it.
