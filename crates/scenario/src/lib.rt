@@ -1,8 +1,8 @@
 //! Scenario files: from a file's bytes to the lines that `svsim` prints.
 //!
 //! `walk_text` and `run_text` answer a text, `command` does the whole of a command over any reader
-//! and writers, `live_command` that of `live`, whose harts are threads, `watch_command` that of
-//! `watch`, and `answer_words` is the whole program over the words of the command line. But for
+//! and writers, `live_command` that of `live`, whose harts are threads, `watch_command_with` that
+//! of `watch`, and `answer_words` is the whole program over the words of the command line. But for
 //! `watch` a text is read and checked whole before its first line is written.
 #![tactic(auto)]
 

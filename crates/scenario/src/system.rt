@@ -41,12 +41,12 @@ fn given_words<R: Env + AllocGlobal>(rt: &R) -> Result<Vec<String>, NoWords> {
     Ok(words.collect(rt.alloc())?)
 }
 
-/// Whether a word is an option of `watch`.
+/// Whether a word is an option of `watch`, or ends the options.
 fn is_option(word: &str) -> bool {
-    word == "--all" || word == "--quiet"
+    word == "--all" || word == "--quiet" || word == "--"
 }
 
-/// Whether `watch` is the first of the words after the program's name that is none of its options.
+/// Whether `watch` is the first of the words after the program's name but for its options.
 fn is_of_trace(words: &Result<Vec<String>, NoWords>) -> bool {
     match words {
         Ok(words) => {
