@@ -1,11 +1,11 @@
 #!/usr/bin/env python3
 """Judges two programs `svsim` by traces on which `watch` could get dear.
 
-dear.py OLD NEW [--turns N] [--sizes K] [--differ] [KIND ..]   judges them by these kinds of traces, or by all
+dear.py OLD NEW [--turns N] [--sizes K] [--differ] [--all] [KIND ..]   judges them by these kinds of traces, or by all
 dear.py --print KIND N                                         prints a trace
 dear.py --list                                                 prints the kinds, their sizes, and what grows with these
 
-Both programs read each trace by turns: N turns, or 3, of the first K of the kind's sizes, or all 3. A line has the least seconds of the
+Both programs read each trace by turns, with `--all` as `svsim watch --all`: N turns, or 3, of the first K of the kind's sizes, or all 3. A line has the least seconds of the
 processor, user's and system's, of OLD and NEW; NEW's over OLD's; and the least peaks of memory. It is marked
 
     SLOWER     over twice the time of OLD and 0.01 s
@@ -27,9 +27,9 @@ def limit():
     resource.setrlimit(resource.RLIMIT_CPU, (LIMIT, LIMIT))
 
 
-def run(program, folder):
+def run(program, folder, options):
     """The processor's seconds, the peak of memory in megabytes, and the status with a digest of the output."""
-    call = ["/usr/bin/time", "-q", "-f", "%M", "-o", f"{folder}/peak", program, "watch", f"{folder}/trace"]
+    call = ["/usr/bin/time", "-q", "-f", "%M", "-o", f"{folder}/peak", program, "watch", *options, f"{folder}/trace"]
     before = resource.getrusage(resource.RUSAGE_CHILDREN)
     with open(f"{folder}/output", "wb") as output:
         done = subprocess.run(call, stdin=subprocess.DEVNULL, stdout=output, stderr=output, preexec_fn=limit)
@@ -39,12 +39,12 @@ def run(program, folder):
     return after.ru_utime + after.ru_stime - before.ru_utime - before.ru_stime, megabytes, (done.returncode, digest)
 
 
-def by_turns(programs, folder, turns):
+def by_turns(programs, folder, turns, options):
     """Of each program the least seconds and megabytes, and all statuses with their digests."""
     runs = [], []
     for turn in range(turns):
         for side in (0, 1) if turn % 2 == 0 else (1, 0):
-            runs[side].append(run(programs[side], folder))
+            runs[side].append(run(programs[side], folder, options))
     return [(min(seconds), min(megabytes), set(answers)) for seconds, megabytes, answers in (zip(*of_one) for of_one in runs)]
 
 
@@ -70,7 +70,7 @@ def grows(times):
     return len(times) == 3 and min(times[0]) > 0.05 and ratio(times[2]) > 1.5 * ratio(times[0])
 
 
-def judge(programs, names, turns, sizes, differ):
+def judge(programs, names, turns, sizes, differ, options):
     marked, growing = 0, []
     with tempfile.TemporaryDirectory() as folder:
         for name in names:
@@ -79,7 +79,7 @@ def judge(programs, names, turns, sizes, differ):
             for size in all_sizes[:sizes]:
                 with open(f"{folder}/trace", "w") as file:
                     file.writelines(f"{line}\n" for line in make(size))
-                old, new = by_turns(programs, folder, turns)
+                old, new = by_turns(programs, folder, turns, options)
                 times.append((old[0], new[0]))
                 due = list(marks(old, new, differ))
                 marked += bool(due)
@@ -104,7 +104,7 @@ def main(words):
         word = rest.pop(0)
         if word in numbers and rest and rest[0].isdecimal() and int(rest[0]):
             numbers[word] = int(rest.pop(0))
-        elif word != "--differ":
+        elif word not in ("--differ", "--all"):
             names.append(word)
     programs, names = names[:2], names[2:]
     if len(programs) < 2 or any(word.startswith("-") for word in programs + names):
@@ -113,7 +113,7 @@ def main(words):
     if unknown:
         sys.exit(f"not there: {' '.join(unknown)}")
     programs = [os.path.abspath(path) for path in programs]
-    sys.exit(judge(programs, names or KINDS, numbers["--turns"], numbers["--sizes"], "--differ" in words))
+    sys.exit(judge(programs, names or KINDS, numbers["--turns"], numbers["--sizes"], "--differ" in words, [word for word in words if word == "--all"]))
 
 
 if __name__ == "__main__":

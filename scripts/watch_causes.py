@@ -11,7 +11,7 @@ with all its verdicts. A *cause* is all findings that agree in three things: pag
 
 Below a cause stand its verdicts, and how many findings are *used* (`watch` gave `use`), *reachable* (from the first verdict to the fence
 that drops it, the ASID is in the hart's satp; of a global page any), or *not reached*. Then come the notes of the stores, and one example.
-Numbers behind TRACE: are lines of the file. First come pages of users, then frames that were given out again, then what can be used.
+Numbers behind TRACE: are lines of the file. First come pages of users, then frames that were given out again, then what can be used. A cause has the number that `watch` gives it.
 PROGRAM stands for ./svsim, which prints 1 MiB at most before `./svsim prove`. The status is that of `watch`.
 
 Each verdict is in one finding. Reasons and groups are this script's own: no proof stands behind them.
@@ -282,8 +282,9 @@ def main(words):
     except OSError as error:
         print(f"watch_causes.py: {error}", file=sys.stderr)
         return 2
-    for number, (key, findings) in enumerate(causes, 1):
-        print(f"{number}. " + "\n   ".join(told(path, trace, key, findings)))
+    begun = sorted(findings[0].place for _, findings in causes)
+    for key, findings in causes:
+        print(f"cause {begun.index(findings[0].place) + 1}: " + "\n  ".join(told(path, trace, key, findings)))
     print(f"{counted(len(causes), 'cause')}, {counted(sum(len(findings) for _, findings in causes), 'finding')}; {last or 'not all was judged'}".rstrip())
     if status > 1 or trace.is_cut:
         print(f"watch_causes.py: `watch` ended with status {status} (docs/FORMAT.md): these are its verdicts before that", file=sys.stderr)

@@ -76,7 +76,7 @@ wanted() {
 }
 
 nameless() {
-    sed -E 's/^[^ ]*:([0-9]+: )/\1/'
+    sed -E 's/^.*\.trace:([0-9]+: [a-z-]+ hart )/\1/'
 }
 
 # Lines of a program, as the definitions show them.

@@ -21,13 +21,19 @@ LINE = re.compile(r"[^:]*:(\d+): (\S+ hart \d+) may hold page (\S+ -> \S+ \S{5} 
 VERDICTS = [owner + verdict for owner in ("", "kernel-") for verdict in ("free", "reuse", "claim", "use")]
 
 
+def is_record(line):
+    return bool(line) and line[0] not in "#m"
+
+
 def noted(seed):
-    """A random trace with notes, and the notes by the number of their record."""
+    """A random trace with notes, and lines that are no records, and the notes by the number of their record."""
     r, lines, notes = random.Random(seed), list(made(seed)), {}
     for number in range(1, len(lines)):
         if r.random() < 0.5:
             notes[number] = f"note{number}"
             lines[number] += f" {r.choice('@#')}{notes[number]}"
+    for _ in range(r.randrange(20)):
+        lines.insert(r.randrange(1, len(lines) + 1), r.choice(("", "# a comment", "m a mark")))
     return lines, notes
 
 
@@ -55,7 +61,7 @@ def wanted(lines, notes):
 
     _, _, harts, scheme = lines[0].split()
     trace, due = Trace(int(harts), {"sv39": 3, "sv48": 4}[scheme]), {}
-    line_at = [1, *(place for place, line in enumerate(lines[1:], 2) if line[0] != "#")]  # of each record; the header's is 1
+    line_at = [1, *(place for place, line in enumerate(lines[1:], 2) if is_record(line))]  # of each record; the header's is 1
     for number, place in enumerate(line_at[1:], 1):
         record = read(lines[place - 1])
         what = why(trace, record, line_at) + by(number)
@@ -140,8 +146,9 @@ def main():
         with tempfile.NamedTemporaryFile("w", prefix=f"watch_random_{seed}_", suffix=".trace", delete=False) as file:
             file.write("\n".join(lines) + "\n")
         program = subprocess.run([*sys.argv[2:], file.name], capture_output=True, text=True)
-        wrong = difference(due, len(lines) - 1, program)
-        totals.update(traces=1, records=len(lines) - 1, verdicts=len(due), differ=bool(wrong))
+        records = sum(map(is_record, lines[1:]))
+        wrong = difference(due, records, program)
+        totals.update(traces=1, records=records, verdicts=len(due), differ=bool(wrong))
         if wrong:
             print(f"{file.name}: {wrong}")
         else:

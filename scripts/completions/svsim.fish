@@ -4,7 +4,7 @@ function __svsim_commands
 end
 # The first word that is no option.
 function __svsim_command
-    string match --invert -- '-?*' (commandline -opc)[2..] | head -n 1
+    string match --invert --regex -- '^-.' (commandline -opc)[2..] | head -n 1
 end
 function __svsim_wants_command
     set -l command (__svsim_command)
@@ -12,7 +12,7 @@ function __svsim_wants_command
 end
 # The options of the command, where none is given yet.
 function __svsim_options
-    if not string match --quiet -- '-?*' (commandline -opc)[2..]
+    if not string match --quiet --regex -- '^-.' (commandline -opc)[2..]
         svsim help (__svsim_command) 2>/dev/null | string replace --regex --filter '^  (--[a-z]+) +(.*)' '$1\t$2'
     end
 end
