@@ -1,7 +1,7 @@
 //! The calls that take memory.
 
 use crate::verdict::Verdict;
-use crate::{inspections, live, locked, machines, notes, texts};
+use crate::{causes, inspections, live, locked, machines, notes, texts};
 use std::alloc::Global;
 use std::sync::Wait;
 use std::thread::Threads;
@@ -23,11 +23,12 @@ pub enum Call {
     Check,
     CheckNotes,
     Watch,
+    WatchCauses,
 }
 
 impl Call {
     /// All of them, in the order of their lines.
-    pub const ALL: [Call; 14] = [
+    pub const ALL: [Call; 15] = [
         Call::MachineOpen,
         Call::MachineRun,
         Call::LockedCall,
@@ -42,6 +43,7 @@ impl Call {
         Call::Check,
         Call::CheckNotes,
         Call::Watch,
+        Call::WatchCauses,
     ];
 
     /// Its name on its line.
@@ -61,6 +63,7 @@ impl Call {
             Call::Check => "command Check",
             Call::CheckNotes => "command Check with notes",
             Call::Watch => "watch_command",
+            Call::WatchCauses => "watch_command_with by causes",
         }
     }
 
@@ -81,6 +84,7 @@ impl Call {
             Call::Check => inspections::check(alloc),
             Call::CheckNotes => inspections::notes(alloc),
             Call::Watch => notes::watch(alloc),
+            Call::WatchCauses => causes::watch(alloc),
         }
     }
 }
