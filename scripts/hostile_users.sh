@@ -18,6 +18,9 @@ cd "$own" || exit 2
 passed=0
 failed=0
 
+# An output without the name of the file, which a picture has below its title.
+unnamed() { grep -v "^<text class='subtitle'" "$1"; }
+
 # Whether a run ended so: its status, its line on standard error without `svsim: ` (or none), and its output: that of a file,
 # `none`, or `any`.
 judge() {
@@ -31,7 +34,7 @@ judge() {
     case $want_out in
     none) [ ! -s out ] || why="$why; output: $(head -c 80 out)" ;;
     any) ;;
-    *) cmp -s out "$want_out" || why="$why; output: $(head -c 80 out)" ;;
+    *) cmp -s <(unnamed out) <(unnamed "$want_out") || why="$why; output: $(head -c 80 out)" ;;
     esac
     if [ -z "$why" ]; then
         passed=$((passed + 1))
