@@ -287,7 +287,8 @@ def main(words):
         print(f"cause {begun.index(findings[0].place) + 1}: " + "\n  ".join(told(path, trace, key, findings)))
     print(f"{counted(len(causes), 'cause')}, {counted(sum(len(findings) for _, findings in causes), 'finding')}; {last or 'not all was judged'}".rstrip())
     if status > 1 or trace.is_cut:
-        print(f"watch_causes.py: `watch` ended with status {status} (docs/FORMAT.md): these are its verdicts before that", file=sys.stderr)
+        print("watch_causes.py: `watch` judged the records before a wrong line alone" if trace.is_cut else
+              f"watch_causes.py: `watch` ended with status {status} (docs/FORMAT.md): these are its verdicts before that", file=sys.stderr)
     return status
 
 
