@@ -11,7 +11,8 @@ with all its verdicts. A *cause* is all findings that agree in three things: pag
 
 Below a cause stand its verdicts, and how many findings are *used* (`watch` gave `use`), *reachable* (from the first verdict to the fence
 that drops it, the ASID is in the hart's satp; of a global page any), or *not reached*. Then come the notes of the stores, and one example.
-Numbers behind TRACE: are lines of the file. First come pages of users, then frames that were given out again, then what can be used. A cause has the number that `watch` gives it.
+Numbers behind TRACE: are lines of the file. First come pages of users, then frames that were given out again, then what can be used. A
+cause has the number that `watch` gives it.
 PROGRAM stands for ./svsim, which prints 1 MiB at most before `./svsim prove`. The status is that of `watch`.
 
 Each verdict is in one finding. Reasons and groups are this script's own: no proof stands behind them.
