@@ -5,9 +5,9 @@ One mistake of a kernel gives a verdict for each page, hart and moment. A *findi
 with all its verdicts. A *cause* is all findings that agree in three things: pages of the kernel or not, the first verdict, and its reason.
 
 - `claim`: what its own flush asked for between its `c` and its `d`, by `f` and `r` of the hart that flushes and, where that begins no `r`,
-  by `f` of the verdict's hart. It is the first of these that holds: no fence; none for this hart; each for another ASID, or for some ASID
-  while the page is global; none for this page; else a fence that was not done yet.
-- `free`, `reuse`: no flush of the page had begun since it was stale, or else the same of the newest that had.
+  by `f` of the verdict's hart. It is the first of these that holds: no fence; none for this hart; each for another ASID or, of a global
+  page, for some ASID; none for this page; else a fence that was not done yet.
+- `free`, `reuse`: no flush of the page has begun since it was stale, or else the same of the newest that has.
 
 Below a cause stand its verdicts, and how many findings are *used* (`watch` gave `use`), *reachable* (from the first verdict to the fence
 that drops it, the ASID is in the hart's satp; of a global page any), or *not reached*. Then come the notes of the stores, and one example.
@@ -31,11 +31,12 @@ Page = namedtuple("Page", "base level is_global asid root")
 Fence = namedtuple("Fence", "record hart rs1 rs2")
 Remote = namedtuple("Remote", "record hart mask addresses asid end")
 Flush = namedtuple("Flush", "record hart root addresses end")
-NO_FLUSH, NO_FENCE, NOT_THIS_HART, OTHER_ASID, OTHER_PAGE, NOT_DONE = REASONS = (
-    "no flush of the page had begun",
+NO_FLUSH, NO_FENCE, NOT_THIS_HART, OTHER_ASID, BY_ASID, OTHER_PAGE, NOT_DONE = (
+    "no flush of the page has begun since",
     "its flush asked for no fence",
     "its flush asked for no fence on this hart",
-    "its flush fenced another ASID, or some ASID while the page is global",
+    "its flush fenced another ASID",
+    "its flush fenced by ASID, which leaves global pages",
     "its flush fenced other pages",
     "its flush asked for a fence that was not done yet")
 KINDS = ("free", "reuse", "claim", "use")
@@ -148,7 +149,8 @@ class Trace:
         here = [fence for fence in asked if is_for(fence, hart)]
         of_space = [fence for fence in here if covers_space(fence, page)]
         of_page = [fence for fence in of_space if covers_page(fence, page, self.top)]
-        found = ((asked, NO_FENCE), (here, NOT_THIS_HART), (of_space, OTHER_ASID), (of_page, OTHER_PAGE))
+        by_asid = BY_ASID if page.is_global else OTHER_ASID
+        found = ((asked, NO_FENCE), (here, NOT_THIS_HART), (of_space, by_asid), (of_page, OTHER_PAGE))
         return next((reason for fences, reason in found if not fences), NOT_DONE)
 
     def newest_flush(self, page, since, until):
@@ -260,7 +262,7 @@ def told(path, trace, key, findings):
 
 def judged_by(last):
     """How many records were judged, by the line with the counts; all that the trace has, where there is none."""
-    return int(last.split()[0]) if re.match(r"\d+ records?, ", last) else sys.maxsize
+    return int(last.split()[0]) if re.match(r"\d+ records?(?: before line \d+)?, ", last) else sys.maxsize
 
 
 def causes_of(program, path):

@@ -10,7 +10,7 @@ import os, subprocess, sys, tempfile
 from collections import Counter
 from same_watch import traces
 from watch_explain import story_of
-from watch_causes import KINDS, NO_FENCE, NO_FLUSH, NOT_DONE, NOT_THIS_HART, OTHER_ASID, OTHER_PAGE, TOP, causes_of
+from watch_causes import BY_ASID, KINDS, NO_FENCE, NO_FLUSH, NOT_DONE, NOT_THIS_HART, OTHER_ASID, OTHER_PAGE, TOP, causes_of
 from trace_lines import access, bare, claim, fence, given_back, given_out, header, kernel_leaf, leaf, line_of, pointer, remote_fence, satp, store
 
 # What the mistake of the kernel (scenes.c, kernel.c) leaves undone.
@@ -25,7 +25,7 @@ KERNEL = {
     "22": [(False, "claim", NO_FENCE)],  # nor does that of a copy
     "31": [(False, "claim", OTHER_PAGE)],  # the fence of a superpage names one page
     "32": [],  # a cached pointer
-    "41": [(True, "claim", OTHER_ASID)],  # a page of the kernel is fenced under an ASID
+    "41": [(True, "claim", BY_ASID)],  # a page of the kernel is fenced under an ASID
     "51": [(False, "free", NO_FLUSH)],  # the end of a process flushes nothing
 }
 ROOT, MIDDLE, LEAVES, OTHER = 0x80000, 0x80001, 0x80002, 0x80010
@@ -70,7 +70,7 @@ ROWS = [
     ("two causes", [BEGIN, fence(0), END, store(LEAVES, 1, leaf(0x201)), store(LEAVES, 1), given_back(0x201)],
      [(False, "free", NO_FLUSH, BOTH), (False, "claim", NOT_THIS_HART, ONE)]),
     ("a page of the kernel under an ASID", [BEGIN, fence(0, None, 0), *remote_fence(0, 2, 2, 0, 0, 1), END],
-     [(True, "claim", OTHER_ASID, BOTH)], kernel_leaf(0x200)),
+     [(True, "claim", BY_ASID, BOTH)], kernel_leaf(0x200)),
 ]
 # The records behind `unmapped`, and the lines of the story of the first verdict on hart 1: the number of each, and what is told. Lines 1 to 10
 # are `unmapped`: 5 maps the page, 6 and 7 write satp, 8 and 9 fence, 10 unmaps it.

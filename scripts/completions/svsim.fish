@@ -10,11 +10,9 @@ function __svsim_wants_command
     set -l command (__svsim_command)
     contains -- "$command" '' help
 end
-# The options of the command, where none is given yet.
+# The options of the command.
 function __svsim_options
-    if not string match --quiet --regex -- '^-.' (commandline -opc)[2..]
-        svsim help (__svsim_command) 2>/dev/null | string replace --regex --filter '^  (--[a-z]+) +(.*)' '$1\t$2'
-    end
+    svsim help (__svsim_command) 2>/dev/null | string replace --regex --filter '^  (--[a-z]+) +(.*)' '$1\t$2'
 end
 complete -c svsim -f -n __svsim_wants_command -a '(__svsim_commands)'
 complete -c svsim -F -n 'not __svsim_wants_command' -a '(__svsim_options)'

@@ -7,7 +7,7 @@ use Rattle.std.proofs.lemmas.List.{drop_all, take_all}
 use Rattle.watch_report.specs.declared.cause_line.NumberedTally.{NumberedTally}
 use Rattle.watch_report.specs.CauseLines.{comes_before, placed}
 
-abbrev behind : NumberedTally → NumberedTally → Bool
+abbrev pub behind : NumberedTally → NumberedTally → Bool
 behind one next = not (comes_before next one)
 
 placed_at : (b : Bool) (one next : NumberedTally) (ones : List NumberedTally) → insert ones (position_or_len (behind one) ones) one ≡ placed one ones
@@ -17,7 +17,7 @@ placed_at true one next ones rest =
     ap (λ (k : ℕ). insert (next ∷ ones) k one) more ∙ ap (λ (xs : List NumberedTally). next ∷ xs) rest
 placed_at false one next ones rest = refl
 
-is_placed : (one : NumberedTally) (ones : List NumberedTally) → insert ones (position_or_len (behind one) ones) one ≡ placed one ones
+pub is_placed : (one : NumberedTally) (ones : List NumberedTally) → insert ones (position_or_len (behind one) ones) one ≡ placed one ones
 is_placed one [] = refl
 is_placed one (next ∷ ones) = placed_at (comes_before next one) one next ones (is_placed one ones)
 

@@ -39,6 +39,18 @@ ends_unread told Unreadable header read tail records start out is at written = e
 ends_unread told Output header read tail records start out is at written = absurd is
 ends_unread told NoMemory header read tail records start out is at written = ends_within told header read tail records start out at written
 
+faultless : (header : Header) (lines : List (List ℕ)) (records : List Noted) → AreTaken header lines records → faulty_line (Ok header) lines ≡ None
+faultless header lines records at =
+    let most : nat_lt (length lines) (length lines) ≡ false = grind (arith, nat_tests) in
+    ap (λ n. option_map (λ k. k + 2) (cond (nat_lt n (length lines)) (Some n) None)) (all_formed header lines records at)
+    ∙ ap (λ b. option_map (λ k. k + 2) (cond b (Some (length lines)) None)) most
+
+-- what is said of no wrong line is said of these lines
+all_told : (header : Header) (lines : List (List ℕ)) (records : List Noted) (Says : Option ℕ → List Noted → Type 0) → AreTaken header lines records → Says None records
+    → Says (faulty_line (Ok header) lines) (records_of header lines)
+all_told header lines records Says at says =
+    subst (λ (wrong : Option ℕ). Says wrong (records_of header lines)) (sym (faultless header lines records at)) (subst (Says None) (sym (records_of_all header lines records at)) says)
+
 -- at a line that was read
 pub ends_at_line : (told : Told) (fault : ReadingFault) (header : Header) (number : ℕ) (read tail : List (List ℕ)) (line : List ℕ) (records : List Noted) (start out : Option (List ℕ)) → number ≡ length read + 2
     → AreTaken header read records → FailsAtLine fault told header number line records start out → EndsBy told (Ok header) (read ++ line ∷ tail) (Err (report_fault_of fault)) start out
@@ -72,7 +84,7 @@ front_told header read tail line records Says at none says =
     subst Says (sym (records_of_front header read (line ∷ tail) records at (stops (has_no_form header) line tail none))) says
 
 pub ends_at_fault : (told : Told) (r : ReportFault) (header : Header) (number : ℕ) (read tail : List (List ℕ)) (line : List ℕ) (records : List Noted) (some : Bool) (start out : Option (List ℕ)) → number ≡ length read + 2
-    → AreTaken header read records → has_no_form header line ≡ true → IsLine number (fault_of header line) some r → WritesAll (WholeText told header.scheme records some) start out
+    → AreTaken header read records → has_no_form header line ≡ true → IsLine number (fault_of header line) some r → WritesAll (WholeText told (Some number) header.scheme records some) start out
     → EndsBy told (Ok header) (read ++ line ∷ tail) (Err r) start out
 ends_at_fault told reported.Unreadable header number read tail line records some start out e at none is written = absurd is
 ends_at_fault told reported.Output header number read tail line records some start out e at none is written = absurd is
@@ -81,36 +93,37 @@ ends_at_fault told (reported.Line n fault warned) header number read tail line r
     let place : n - 2 ≡ length read = omega (arith, e, is.0) in (
       faulty_at header read tail line records at none ∙ ap Some (sym (is.0 ∙ e)),
       ap (fault_of header) (line_at read tail line (n - 2) place) ∙ is.1,
-      front_told header read tail line records (λ (r : List Noted). WritesAll (WholeText told header.scheme r warned) start out) at none
-          (subst (λ (b : Bool). WritesAll (WholeText told header.scheme records b) start out) (sym is.2) written),
+      subst (λ (wrong : Option ℕ). WritesAll (WholeText told wrong header.scheme (records_of header (read ++ line ∷ tail)) warned) start out)
+          (sym (faulty_at header read tail line records at none ∙ ap Some (sym e)))
+          (front_told header read tail line records (λ (r : List Noted). WritesAll (WholeText told (Some number) header.scheme r warned) start out) at none
+          (subst (λ (b : Bool). WritesAll (WholeText told (Some number) header.scheme records b) start out) (sym is.2) written)),
     )
 
 -- and the last line was not written
-pub ends_unfinished : (told : Told) (fault : ReadingFault) (header : Header) (read tail : List (List ℕ)) (line : List ℕ) (records : List Noted) (start out : Option (List ℕ))
-    → AreTaken header read records → has_no_form header line ≡ true → FailsAtEnd fault told header.scheme records start out → EndsBy told (Ok header) (read ++ line ∷ tail) (Err (report_fault_of fault)) start out
-ends_unfinished told Unreadable header read tail line records start out at none fails = absurd fails
-ends_unfinished told Output header read tail line records start out at none fails =
-    inr (fails.0, front_told header read tail line records (λ (r : List Noted). WritesFront (WholeText told header.scheme r fails.0) start out) at none fails.1)
-ends_unfinished told NoMemory header read tail line records start out at none fails = ends_within told header read (line ∷ tail) records start out at fails
+pub ends_unfinished : (told : Told) (fault : ReadingFault) (header : Header) (number : ℕ) (read tail : List (List ℕ)) (line : List ℕ) (records : List Noted) (start out : Option (List ℕ)) → number ≡ length read + 2
+    → AreTaken header read records → has_no_form header line ≡ true → FailsAtEnd fault told (Some number) header.scheme records start out → EndsBy told (Ok header) (read ++ line ∷ tail) (Err (report_fault_of fault)) start out
+ends_unfinished told Unreadable header number read tail line records start out e at none fails = absurd fails
+ends_unfinished told Output header number read tail line records start out e at none fails =
+    inr (
+      fails.0,
+      subst (λ (wrong : Option ℕ). WritesFront (WholeText told wrong header.scheme (records_of header (read ++ line ∷ tail)) fails.0) start out)
+          (sym (faulty_at header read tail line records at none ∙ ap Some (sym e)))
+          (front_told header read tail line records (λ (r : List Noted). WritesFront (WholeText told (Some number) header.scheme r fails.0) start out) at none fails.1),
+    )
+ends_unfinished told NoMemory header number read tail line records start out e at none fails = ends_within told header read (line ∷ tail) records start out at fails
 
 -- ---- at the end
 
-faultless : (header : Header) (lines : List (List ℕ)) (records : List Noted) → AreTaken header lines records → faulty_line (Ok header) lines ≡ None
-faultless header lines records at =
-    let most : nat_lt (length lines) (length lines) ≡ false = grind (arith, nat_tests) in
-    ap (λ n. option_map (λ k. k + 2) (cond (nat_lt n (length lines)) (Some n) None)) (all_formed header lines records at)
-    ∙ ap (λ b. option_map (λ k. k + 2) (cond b (Some (length lines)) None)) most
-
 pub ends_done : (told : Told) (some : Bool) (header : Header) (lines : List (List ℕ)) (records : List Noted) (start out : Option (List ℕ)) → AreTaken header lines records
-    → WritesAll (WholeText told header.scheme records some) start out → EndsBy told (Ok header) lines (Ok some) start out
+    → WritesAll (WholeText told None header.scheme records some) start out → EndsBy told (Ok header) lines (Ok some) start out
 ends_done told some header lines records start out at written =
-    (faultless header lines records at, subst (λ (r : List Noted). WritesAll (WholeText told header.scheme r some) start out) (sym (records_of_all header lines records at)) written)
+    (faultless header lines records at, all_told header lines records (λ (wrong : Option ℕ) (r : List Noted). WritesAll (WholeText told wrong header.scheme r some) start out) at written)
 
 pub ends_undone : (told : Told) (fault : ReadingFault) (header : Header) (lines : List (List ℕ)) (records : List Noted) (start out : Option (List ℕ)) → AreTaken header lines records
-    → FailsAtEnd fault told header.scheme records start out → EndsBy told (Ok header) lines (Err (report_fault_of fault)) start out
+    → FailsAtEnd fault told None header.scheme records start out → EndsBy told (Ok header) lines (Err (report_fault_of fault)) start out
 ends_undone told Unreadable header lines records start out at fails = absurd fails
 ends_undone told Output header lines records start out at fails =
-    inr (fails.0, subst (λ (r : List Noted). WritesFront (WholeText told header.scheme r fails.0) start out) (sym (records_of_all header lines records at)) fails.1)
+    inr (fails.0, all_told header lines records (λ (wrong : Option ℕ) (r : List Noted). WritesFront (WholeText told wrong header.scheme r fails.0) start out) at fails.1)
 ends_undone told NoMemory header lines records start out at fails =
     subst (λ (l : List (List ℕ)). EndsBy told (Ok header) l (Err reported.NoMemory) start out) (append-nil lines) (ends_within told header lines [] records start out at fails)
 
@@ -131,11 +144,13 @@ pub failed_line : (told : Told) (fault : ReadingFault) (old header : Header) (nu
 failed_line told fault old header number given line records start out e f fails =
     subst (λ (h : Header). FailsAtLine fault told h number line records start out) e (subst (λ (l : List ℕ). FailsAtLine fault told old number l records start out) f fails)
 
-pub failed_end : (told : Told) (fault : ReadingFault) (old header : Header) (records : List Noted) (start out : Option (List ℕ)) → old ≡ header → FailsAtEnd fault told old.scheme records start out → FailsAtEnd fault told header.scheme records start out
-failed_end told fault old header records start out e fails = subst (λ (h : Header). FailsAtEnd fault told h.scheme records start out) e fails
+pub failed_end : (told : Told) (wrong : Option ℕ) (fault : ReadingFault) (old header : Header) (records : List Noted) (start out : Option (List ℕ)) → old ≡ header → FailsAtEnd fault told wrong old.scheme records start out
+    → FailsAtEnd fault told wrong header.scheme records start out
+failed_end told wrong fault old header records start out e fails = subst (λ (h : Header). FailsAtEnd fault told wrong h.scheme records start out) e fails
 
-pub written_end : (told : Told) (some : Bool) (old header : Header) (records : List Noted) (start out : Option (List ℕ)) → old ≡ header → WritesAll (WholeText told old.scheme records some) start out → WritesAll (WholeText told header.scheme records some) start out
-written_end told some old header records start out e written = subst (λ (h : Header). WritesAll (WholeText told h.scheme records some) start out) e written
+pub written_end : (told : Told) (wrong : Option ℕ) (some : Bool) (old header : Header) (records : List Noted) (start out : Option (List ℕ)) → old ≡ header → WritesAll (WholeText told wrong old.scheme records some) start out
+    → WritesAll (WholeText told wrong header.scheme records some) start out
+written_end told wrong some old header records start out e written = subst (λ (h : Header). WritesAll (WholeText told wrong h.scheme records some) start out) e written
 
 pub told_line : (number : ℕ) (header : Header) (given line : List ℕ) (some : Bool) (r : ReportFault) → given ≡ line → IsLine number (fault_of header given) some r → IsLine number (fault_of header line) some r
 told_line number header given line some r e is = subst (λ (l : List ℕ). IsLine number (fault_of header l) some r) e is
@@ -166,7 +181,7 @@ ends_from told text first lines said r start out e is ends =
 -- of no line anything is printed
 none_told : (told : Told) (said : Result Header (List ℕ)) → Tells told said [] []
 none_told told (Err first) = refl
-none_told told (Ok header) = ([], tt, refl)
+none_told told (Ok header) = ([], ([], tt, refl), refl)
 
 none_written : (told : Told) (said : Result Header (List ℕ)) (start : Option (List ℕ)) → WritesAll (Tells told said []) start start
 none_written told said start = ([], none_told told said, Appends-nil start)

@@ -19,7 +19,7 @@ use Rattle.watch_report.specs.declared.line_form.LineForm.{LineForm}
 use Rattle.watch_report.specs.declared.line_form.LineForm.TheVariants as forms
 use Rattle.watch_report.specs.Fields.{◌>>=◌, fields_of, hart_field, hexadecimal_field, number_field, only_if, optional_field}
 use Rattle.watch_report.specs.LineForms.{form_fields, form_of, kind_of}
-use Rattle.watch_report.specs.LineFaults.{any_machine, ends_at_space, fault_at, fault_of, fields_fault, first_of, header_fault, kind_reason, name_reason, noted_fault, or_wrong, record_fault, unless, word_reason, words_fault}
+use Rattle.watch_report.specs.LineFaults.{any_machine, ends_at_space, fault_at, fault_of, fields_fault, first_of, first_reason, header_fault, kind_reason, noted_fault, or_wrong, record_fault, unless, word_reason, words_fault}
 use Rattle.watch_report.specs.Records.{asid_field, claim_begin_in, claim_end_in, fence_in, give_back_in, give_out_in, record_by, remote_begin_in, remote_end_in, satp_in, satp_write_in, small_asid, store_in, use_in}
 use Rattle.watch_report.specs.TraceLines.{LineText, comment, empty, mark_of, before_note, begins_note, hart_count_field, header_in, note_of, record_in, record_of, scheme_field}
 use Rattle.watch_report.specs.TraceText.{has_no_form}
@@ -331,9 +331,9 @@ words_law (a ∷ []) = bad_uneven any_machine (form_fields forms.Header) (a ∷ 
 words_law (a ∷ b ∷ []) = bad_uneven any_machine (form_fields forms.Header) (a ∷ b ∷ []) refl
 words_law (a ∷ b ∷ c ∷ []) = bad_uneven any_machine (form_fields forms.Header) (a ∷ b ∷ c ∷ []) refl
 words_law (a ∷ b ∷ c ∷ d ∷ []) =
-    ap (λ x. is_some (unless (bytes_eq a (codes "watch")) (name_reason a)) || (is_some (unless (bytes_eq b (codes "1")) OtherVersion) || (x || (is_some (unless (is_some (scheme_field d)) OtherScheme) || false))))
+    ap (λ x. is_some (unless (bytes_eq a (codes "watch")) (first_reason NoTrace a)) || (is_some (unless (bytes_eq b (codes "1")) OtherVersion) || (x || (is_some (unless (is_some (scheme_field d)) OtherScheme) || false))))
     (harts_bad (number_field 10 c) _ _)
-    ∙ first_four (bytes_eq a (codes "watch")) (bytes_eq b (codes "1")) (name_reason a) (hart_count_field c) (scheme_field d) _
+    ∙ first_four (bytes_eq a (codes "watch")) (bytes_eq b (codes "1")) (first_reason NoTrace a) (hart_count_field c) (scheme_field d) _
 words_law (a ∷ b ∷ c ∷ d ∷ e ∷ words) = bad_uneven any_machine (form_fields forms.Header) (a ∷ b ∷ c ∷ d ∷ e ∷ words) refl
 
 not_empty : (test : Bool) (one : LineFault) (fault : Option LineFault) (b : Bool) → test ≡ false → is_some fault ≡ b → is_some (if test then Some one else fault) ≡ b

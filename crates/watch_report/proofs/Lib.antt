@@ -9,6 +9,7 @@ pub mod FirstBytes
 pub mod Hexadecimal
 pub mod CountLemmas
 mod CauseLemmas
+pub mod CauseOrder
 pub mod Spaced
 pub mod WorkedLines
 pub mod PrintedNumbers
@@ -18,11 +19,14 @@ pub mod WorkedWarnings
 pub mod WorkedCauseLines
 mod OutputLemmas
 mod LineLemmas
+mod FilterLemmas
 mod VerdictLemmas
 mod ReadLemmas
 mod EndingLemmas
 pub mod TriggerLaws
+pub mod FilterLaws
 pub mod WorkedReports
+pub mod WorkedFilters
 mod TextLemmas
 mod NoteLemmas
 mod RunLemmas

@@ -1,14 +1,14 @@
 -- The lines of one record more.
 use Rattle.std.proofs.Common.{◌≡◌, ◌≢◌, true, false, eqb, ℕ, ◌+◌, ◌-◌, ◌≤◌, ◌<◌, ◌^◌, zero, suc, List, [], ◌∷◌, ◌++◌, cond, length, get_or, ◌⊎◌, inl, inr, ne_eqb, refl, sym, ap, subst, ◌∙◌, arith, length-append}
 use Rattle.std.specs.Prelude.{◌%◌, nat_le}
-use Rattle.std.proofs.Math.Nat.{mod-eq_of_lt}
+use Rattle.std.proofs.Math.Nat.{mod-add-mod, mod-eq_of_lt}
 use Rattle.std.proofs.lemmas.Bool.{cases_lt, cond-false, cond-true}
 use Rattle.std.proofs.lemmas.Bool.Decides.{eqb_tells, nat_tests}
 use Rattle.std.proofs.lemmas.List.{get_or_append_left, get_or_push}
 use Rattle.std.specs.List.Sorted.{IsNonDecreasingBy}
 use Rattle.std.proofs.lemmas.List.Sorted.{IsNonDecreasingBy-push}
 use Rattle.watch_report.specs.declared.lines.Run.{Run}
-use Rattle.watch_report.specs.LineNumbers.{AreRuns, EndsBefore, behind, line_by, line_from}
+use Rattle.watch_report.specs.LineNumbers.{AreRuns, EndsBefore, IsNext, behind, line_by, line_from}
 use Rattle.watch_report.specs.TraceText.{Noted, line_at}
 
 -- ---- whether a run begins at a record or before it
@@ -156,6 +156,35 @@ pub new_row : (records : List Noted) (count number : ℕ) (runs next : List Run)
 new_row records count number runs next newest are counts is less =
     let same : runs ++ run_at (count + 1) newest.line ∷ [] ≡ next = ap (λ n. runs ++ run_at n newest.line ∷ []) (sym counts) ∙ sym is in
     subst (λ n. AreRuns (newest ∷ records) n next) (sym counts) (subst (AreRuns (newest ∷ records) (count + 1)) same (new_run records count runs newest are less))
+
+-- ---- the line right behind the last run
+
+line_from_next : (run : Run) (number line : ℕ) → run.first ≤ number → line_from run number ≡ line → (line + 1) % 2 ^ 64 ≡ line_from run (number + 1)
+unfolding line_from
+line_from_next run number line begun is =
+    let more : run.line + (number - run.first) + 1 ≡ run.line + (number + 1 - run.first) = omega (arith, begun) in
+    ap (λ n. (n + 1) % 2 ^ 64) (sym is) ∙ mod-add-mod (run.line + (number - run.first)) (2 ^ 64) 1 ∙ ap (λ n. n % 2 ^ 64) more
+
+behind_next : (d : Run) (runs : List Run) (place number line : ℕ) → 0 < place → ((n : ℕ) → n < place → (get_or runs n d).first ≤ number) → behind d runs place number ≡ line
+    → (line + 1) % 2 ^ 64 ≡ behind d runs place (number + 1)
+behind_next d runs zero number line some begun is = absurd (omega (arith, some))
+behind_next d runs (suc place) number line some begun is = line_from_next (get_or runs place d) number line (begun place (omega arith)) is
+
+-- the newest record stands on the line of the last run
+behind_newest : (records : List Noted) (count : ℕ) (runs : List Run) (newest : Noted) (d : Run) → AreRuns (newest ∷ records) count runs → behind d runs (length runs) count ≡ newest.line
+behind_newest records count runs newest d are =
+    let last : eqb count (suc (length records)) ≡ true = grind (arith, nat_tests, are.count_is) in
+    sym (line_by_place d runs (length runs) count (all_before (newest ∷ records) count runs count are (omega (arith, are.count_is))) (omega arith))
+    ∙ are.line count (omega (arith, are.count_is)) (omega (arith, are.count_is)) ∙ line_of_newest newest records count last
+
+pub is_next : (records : List Noted) (count line : ℕ) (runs : List Run) (newest : Noted) → AreRuns (newest ∷ records) count runs → newest.line ≡ line → IsNext ((line + 1) % 2 ^ 64) count runs
+is_next records count line runs newest are is = λ d some.
+    behind_next d runs (length runs) count line some (λ n among. omega (arith, are.within n d among, are.count_is)) (behind_newest records count runs newest d are ∙ is)
+
+pub next_row : (records : List Noted) (count number next : ℕ) (runs : List Run) (newest : Noted) → AreRuns records count runs → IsNext next count runs → number ≡ count + 1 → 0 < length runs
+    → next ≡ newest.line → AreRuns (newest ∷ records) number runs
+next_row records count number next runs newest are is counts some at =
+    subst (λ n. AreRuns (newest ∷ records) n runs) (sym counts) (same_runs records count runs newest no_run are (sym (is no_run some) ∙ at))
 
 -- the line that a search finds
 pub line_found : (records : List Noted) (count : ℕ) (runs : List Run) (place number line : ℕ) → AreRuns records count runs → (IsNonDecreasingBy (λ (r : Run). r.first) runs → EndsBefore number runs place)

@@ -1,6 +1,7 @@
 -- The verdicts on a trace, one record after the other.
-use Rattle.std.proofs.Common.{◌≡◌, ◌↔◌, inl, inr, ℕ, ◌+◌, ◌<◌, Bool, true, false, IsTrue, List, [], ◌∷◌, ◌++◌, length, Option, Some, Result, Ok, Err, OnErr, IfErr, nat_lt, ltb-true, lt-ltb, refl, sym, ap, subst, ◌∙◌, arith}
+use Rattle.std.proofs.Common.{◌≡◌, ◌↔◌, inl, inr, ℕ, zero, suc, ◌+◌, ◌<◌, Bool, true, false, IsTrue, List, [], ◌∷◌, ◌++◌, length, Option, Some, Result, Ok, Err, OnErr, IfErr, nat_lt, ltb-true, lt-ltb, refl, sym, ap, ap₂, subst, ◌∙◌, arith}
 use Rattle.std.specs.Prelude.{IsErrOf}
+use Rattle.std.specs.List.{filter as kept_by}
 use Rattle.std.specs.Io.KnownBytes.{Appends}
 use Rattle.pte.specs.declared.scheme.Scheme.{Scheme}
 use Rattle.watch.specs.declared.trace.Record.{Record}
@@ -12,7 +13,9 @@ use Rattle.watch_engine.specs.Warnings.{AreWarnings, shown_of}
 use Rattle.watch_engine.specs.Watching.{Follows}
 use Rattle.watch_tables.specs.Words.{since, words}
 use Rattle.watch_report.specs.declared.counts.VerdictCounts.{VerdictCounts}
+use Rattle.watch_report.specs.declared.filter.Filter.{Filter}
 use Rattle.watch_report.specs.declared.header.Header.{Header}
+use Rattle.watch_report.specs.Filters.{taken, takes}
 use Rattle.watch_report.specs.Warnings.{sum_of, summary_line}
 use Rattle.watch_report.specs.TraceLines.{line_in, record_of}
 use Rattle.watch_report.specs.declared.reading_fault.ReadingFault.{ReadingFault}
@@ -25,25 +28,29 @@ use Rattle.watch_report.specs.TraceText.{Noted, trace_of}
 use Rattle.watch_report.specs.declared.detail.Detail.{Detail}
 use Rattle.watch_report.specs.Reports.{Told, WholeText, told_at, told_text, totals_by}
 use Rattle.watch_report.specs.Telling.{IsTelling}
-use Rattle.watch_report.specs.VerdictLines.{AreGiven, GivesAt, GivesVerdict, counted, counts_after, counts_of, with_verdict}
+use Rattle.watch_report.specs.VerdictLines.{AreGiven, AreTold, GivesAt, GivesVerdict, counted, counts_after, counts_of, with_verdict}
 use Rattle.watch_report.proofs.OutputLemmas.{front_after}
+use Rattle.watch_report.proofs.FilterLemmas.{first_of, from_kept, same_taken, to_kept}
 
 -- ---- one record more
 
-pub seen_more : (detail : Detail) (r new : Reading) (records : List Noted) (given : List (List Warning)) (newest : Noted) (warnings : List Warning)
-    → HasSeen detail records given r → new.header ≡ r.header → new.watch.scheme ≡ r.watch.scheme → Follows words since (newest.made ∷ trace_of records) new.watch
-    → AreWarnings r.watch.scheme newest.made (trace_of records) warnings → new.records ≡ r.records + 1 → ArePast (newest ∷ records) new.past → IsTelling detail r.header.scheme (newest ∷ records) (warnings ∷ given) new.telling
+-- with the warnings that are kept of those at it
+pub told_more : (filter : Filter) (scheme : Scheme) (newest : Noted) (records : List Noted) (told : List (List Warning)) (kept warnings : List Warning) → AreWarnings scheme newest.made (trace_of records) warnings
+    → kept ≡ kept_by (takes filter) warnings → AreTold filter scheme records told → AreTold filter scheme (newest ∷ records) (kept ∷ told)
+told_more filter scheme newest records told kept warnings new is old =
+    (warnings ∷ old.0, (new, old.1), ap₂ (λ (w : List Warning) (g : List (List Warning)). w ∷ g) is old.2)
+
+pub seen_more : (detail : Detail) (filter : Filter) (r new : Reading) (records : List Noted) (given : List (List Warning)) (newest : Noted) (warnings : List Warning)
+    → HasSeen detail filter records given r → new.header ≡ r.header → new.filter ≡ r.filter → new.watch.scheme ≡ r.watch.scheme → Follows words since (newest.made ∷ trace_of records) new.watch
+    → AreTold filter r.header.scheme (newest ∷ records) (warnings ∷ given) → new.records ≡ r.records + 1 → ArePast (newest ∷ records) new.past → IsTelling detail r.header.scheme (newest ∷ records) (warnings ∷ given) new.telling
     → new.user ≡ counts_after false r.user warnings → new.kernel ≡ counts_after true r.kernel warnings
-    → HasSeen detail (newest ∷ records) (warnings ∷ given) new
-seen_more detail r new records given newest warnings seen header scheme follows are number past telling user kernel =
-    let old : r.watch.scheme ≡ r.header.scheme = seen.scheme in
+    → HasSeen detail filter (newest ∷ records) (warnings ∷ given) new
+seen_more detail filter r new records given newest warnings seen header kept scheme follows are number past telling user kernel =
     record {
       follows = follows;
-      scheme = scheme ∙ old ∙ ap (λ (h : Header). h.scheme) (sym header);
-      are = (
-        subst (λ (h : Header). AreWarnings h.scheme newest.made (trace_of records) warnings) (sym header) (subst (λ (s : Scheme). AreWarnings s newest.made (trace_of records) warnings) old are),
-        subst (λ (h : Header). AreGiven h.scheme records given) (sym header) seen.are,
-      );
+      scheme = scheme ∙ seen.scheme ∙ ap (λ (h : Header). h.scheme) (sym header);
+      filter_is = kept ∙ seen.filter_is;
+      are = subst (λ (h : Header). AreTold filter h.scheme (newest ∷ records) (warnings ∷ given)) (sym header) are;
       number = omega (arith, number, seen.number);
       past = past;
       telling = subst (λ (h : Header). IsTelling detail h.scheme (newest ∷ records) (warnings ∷ given) new.telling) (sym header) telling;
@@ -53,13 +60,13 @@ seen_more detail r new records given newest warnings seen header scheme follows 
 
 -- the writer failed at what is told of a record
 pub fails_at_record : (told : Told) (r : Result (Unit {0}) ReadingFault) (scheme : Scheme) (newest : Noted) (records : List Noted) (given : List (List Warning)) (warnings : List Warning) (start mid out : Option (List ℕ))
-    → AreWarnings scheme newest.made (trace_of records) warnings → AreGiven scheme records given → Appends start mid (told_text told scheme records given)
+    → AreTold told.filter scheme (newest ∷ records) (warnings ∷ given) → Appends start mid (told_text told scheme records given)
     → OnErr r (IsErrOf r Output) → OnErr r (AppendsFront mid out (told_at told.detail told.file scheme newest records warnings given))
     → IfErr r (λ fault. FailsAtRecord fault told scheme newest records start out)
-fails_at_record told (Ok done) scheme newest records given warnings start mid out new old written is front = tt
-fails_at_record told (Err fault) scheme newest records given warnings start mid out new old written is front =
+fails_at_record told (Ok done) scheme newest records given warnings start mid out are written is front = tt
+fails_at_record told (Err fault) scheme newest records given warnings start mid out are written is front =
     subst (λ (r : Result (Unit {0}) ReadingFault). IfErr r (λ f. FailsAtRecord f told scheme newest records start out)) (sym is)
-    (told_text told scheme (newest ∷ records) (warnings ∷ given), (warnings ∷ given, (new, old), refl), front_after start mid out _ _ written front)
+    (told_text told scheme (newest ∷ records) (warnings ∷ given), (warnings ∷ given, are, refl), front_after start mid out _ _ written front)
 
 pub fails_at_line : (fault : ReadingFault) (told : Told) (header : Header) (number : ℕ) (line by : List ℕ) (made : Record) (records : List Noted) (start out : Option (List ℕ))
     → line_in header line ≡ Some (record_of made by) → FailsAtRecord fault told header.scheme (record { made = made; by = by; line = number }) records start out → FailsAtLine fault told header number line records start out
@@ -91,52 +98,60 @@ one_more warnings given = each_counted warnings (counts_of false given) (counts_
 
 -- ---- whether there is one
 
-some_given : (scheme : Scheme) (newest : Record) (trace : Trace) (warnings : List Warning) → AreWarnings scheme newest trace warnings → 0 < length warnings → GivesAt scheme newest trace
-some_given scheme newest trace [] are some = absurd (omega (arith, some))
-some_given scheme newest trace (w ∷ warnings) are some = (w.verdict, w.hart, shown_of w, (are.each w (0, some, refl)).0)
+some_given : (filter : Filter) (scheme : Scheme) (newest : Record) (trace : Trace) (warnings : List Warning) → AreWarnings scheme newest trace warnings → 0 < length (kept_by (takes filter) warnings)
+    → GivesAt filter scheme newest trace
+some_given filter scheme newest trace warnings are some =
+    let first = first_of (kept_by (takes filter) warnings) some in
+    let from = from_kept (takes filter) warnings first.0 first.1 in
+    (first.0.verdict, first.0.hart, shown_of first.0, (are.each first.0 from.0).0, from.1)
 
-given_is_some : (scheme : Scheme) (newest : Record) (trace : Trace) (warnings : List Warning) → AreWarnings scheme newest trace warnings → GivesAt scheme newest trace → 0 < length warnings
-given_is_some scheme newest trace warnings are gives =
+given_is_some : (filter : Filter) (scheme : Scheme) (newest : Record) (trace : Trace) (warnings : List Warning) → AreWarnings scheme newest trace warnings → GivesAt filter scheme newest trace
+    → 0 < length (kept_by (takes filter) warnings)
+given_is_some filter scheme newest trace warnings are gives =
     let w = are.all gives.0 gives.1 gives.2 gives.3 in
-    omega (arith, w.1.1)
+    let among = to_kept (takes filter) warnings w.0 w.1 (same_taken filter w.0 gives.0 gives.1 gives.2 w.2 w.3 w.4 ∙ gives.4) in
+    omega (arith, among.1)
 
-gives_more : (scheme : Scheme) (newest : Record) (trace : Trace) (warnings : List Warning) (n : ℕ) → AreWarnings scheme newest trace warnings → (0 < n → GivesVerdict scheme trace)
-    → 0 < n + length warnings → GivesVerdict scheme (newest ∷ trace)
-gives_more scheme newest trace [] n are rest some = inr (rest (omega (arith, some)))
-gives_more scheme newest trace (w ∷ warnings) n are rest some = inl (some_given scheme newest trace (w ∷ warnings) are (omega arith))
+gives_more : (filter : Filter) (scheme : Scheme) (newest : Record) (trace : Trace) (warnings : List Warning) (n m : ℕ) → AreWarnings scheme newest trace warnings → (0 < n → GivesVerdict filter scheme trace)
+    → length (kept_by (takes filter) warnings) ≡ m → 0 < n + m → GivesVerdict filter scheme (newest ∷ trace)
+gives_more filter scheme newest trace warnings n zero are rest is some = inr (rest (omega (arith, some)))
+gives_more filter scheme newest trace warnings n (suc m) are rest is some = inl (some_given filter scheme newest trace warnings are (omega (arith, is)))
 
-gives_some : (scheme : Scheme) (records : List Noted) (given : List (List Warning)) → AreGiven scheme records given → 0 < count_in given → GivesVerdict scheme (trace_of records)
-gives_some scheme [] [] are some = absurd (omega (arith, some))
-gives_some scheme [] (warnings ∷ given) are some = absurd are
-gives_some scheme (newest ∷ records) [] are some = absurd are
-gives_some scheme (newest ∷ records) (warnings ∷ given) are some =
-    gives_more scheme newest.made (trace_of records) warnings (count_in given) are.0 (gives_some scheme records given are.1) (omega (arith, some, one_more warnings given))
+gives_some : (filter : Filter) (scheme : Scheme) (records : List Noted) (given : List (List Warning)) → AreGiven scheme records given → 0 < count_in (taken filter given) → GivesVerdict filter scheme (trace_of records)
+gives_some filter scheme [] [] are some = absurd (omega (arith, some))
+gives_some filter scheme [] (warnings ∷ given) are some = absurd are
+gives_some filter scheme (newest ∷ records) [] are some = absurd are
+gives_some filter scheme (newest ∷ records) (warnings ∷ given) are some =
+    gives_more filter scheme newest.made (trace_of records) warnings (count_in (taken filter given)) _ are.0 (gives_some filter scheme records given are.1) refl
+    (omega (arith, some, one_more (kept_by (takes filter) warnings) (taken filter given)))
 
-count_positive : (scheme : Scheme) (records : List Noted) (given : List (List Warning)) → AreGiven scheme records given → GivesVerdict scheme (trace_of records) → 0 < count_in given
-count_positive scheme [] [] are gives = absurd gives
-count_positive scheme [] (warnings ∷ given) are gives = absurd are
-count_positive scheme (newest ∷ records) [] are gives = absurd are
-count_positive scheme (newest ∷ records) (warnings ∷ given) are (inl gives) =
-    omega (arith, given_is_some scheme newest.made (trace_of records) warnings are.0 gives, one_more warnings given)
-count_positive scheme (newest ∷ records) (warnings ∷ given) are (inr gives) =
-    omega (arith, count_positive scheme records given are.1 gives, one_more warnings given)
+count_positive : (filter : Filter) (scheme : Scheme) (records : List Noted) (given : List (List Warning)) → AreGiven scheme records given → GivesVerdict filter scheme (trace_of records) → 0 < count_in (taken filter given)
+count_positive filter scheme [] [] are gives = absurd gives
+count_positive filter scheme [] (warnings ∷ given) are gives = absurd are
+count_positive filter scheme (newest ∷ records) [] are gives = absurd are
+count_positive filter scheme (newest ∷ records) (warnings ∷ given) are (inl gives) =
+    omega (arith, given_is_some filter scheme newest.made (trace_of records) warnings are.0 gives, one_more (kept_by (takes filter) warnings) (taken filter given))
+count_positive filter scheme (newest ∷ records) (warnings ∷ given) are (inr gives) =
+    omega (arith, count_positive filter scheme records given are.1 gives, one_more (kept_by (takes filter) warnings) (taken filter given))
 
-pub counts_say : (scheme : Scheme) (records : List Noted) (given : List (List Warning)) → AreGiven scheme records given → IsTrue (nat_lt 0 (count_in given)) ↔ GivesVerdict scheme (trace_of records)
-counts_say scheme records given are =
-    (λ t. gives_some scheme records given are (ltb-true 0 (count_in given) t), λ gives. lt-ltb 0 (count_in given) (count_positive scheme records given are gives))
+pub counts_say : (filter : Filter) (scheme : Scheme) (records : List Noted) (told : List (List Warning)) → AreTold filter scheme records told → IsTrue (nat_lt 0 (count_in told)) ↔ GivesVerdict filter scheme (trace_of records)
+counts_say filter scheme records told are =
+    let count : ℕ = count_in (taken filter are.0) in
+    subst (λ (t : List (List Warning)). IsTrue (nat_lt 0 (count_in t)) ↔ GivesVerdict filter scheme (trace_of records)) (sym are.2)
+    (λ t. gives_some filter scheme records are.0 are.1 (ltb-true 0 count t), λ gives. lt-ltb 0 count (count_positive filter scheme records are.0 are.1 gives))
 
 -- ---- the last lines
 
-pub whole_text : (told : Told) (scheme : Scheme) (records : List Noted) (given : List (List Warning)) (some : Bool) (user kernel : VerdictCounts) (number : ℕ) → AreGiven scheme records given
+pub whole_text : (told : Told) (wrong : Option ℕ) (scheme : Scheme) (records : List Noted) (given : List (List Warning)) (some : Bool) (user kernel : VerdictCounts) (number : ℕ) → AreTold told.filter scheme records given
     → some ≡ nat_lt 0 (sum_of user + sum_of kernel) → user ≡ counts_of false given → kernel ≡ counts_of true given → number ≡ length records
-    → WholeText told scheme records some (told_text told scheme records given ++ (totals_by told.detail told.file scheme records given ++ summary_line number user kernel))
-whole_text told scheme records given some user kernel number are is a b n =
-    rw (is, a, b, n) (given, are, refl, counts_say scheme records given are)
+    → WholeText told wrong scheme records some (told_text told scheme records given ++ (totals_by told.detail told.file scheme records given ++ summary_line number wrong user kernel))
+whole_text told wrong scheme records given some user kernel number are is a b n =
+    rw (is, a, b, n) (given, are, refl, counts_say told.filter scheme records given are)
 
-pub fails_at_end : (told : Told) (r : Result (Unit {0}) ReadingFault) (scheme : Scheme) (records : List Noted) (some : Bool) (before last : List ℕ) (start mid out : Option (List ℕ))
-    → WholeText told scheme records some (before ++ last) → Appends start mid before → OnErr r (IsErrOf r Output) → OnErr r (AppendsFront mid out last)
-    → IfErr r (λ fault. FailsAtEnd fault told scheme records start out)
-fails_at_end told (Ok done) scheme records some before last start mid out whole written is front = tt
-fails_at_end told (Err fault) scheme records some before last start mid out whole written is front =
-    subst (λ (r : Result (Unit {0}) ReadingFault). IfErr r (λ f. FailsAtEnd f told scheme records start out)) (sym is)
+pub fails_at_end : (told : Told) (wrong : Option ℕ) (r : Result (Unit {0}) ReadingFault) (scheme : Scheme) (records : List Noted) (some : Bool) (before last : List ℕ) (start mid out : Option (List ℕ))
+    → WholeText told wrong scheme records some (before ++ last) → Appends start mid before → OnErr r (IsErrOf r Output) → OnErr r (AppendsFront mid out last)
+    → IfErr r (λ fault. FailsAtEnd fault told wrong scheme records start out)
+fails_at_end told wrong (Ok done) scheme records some before last start mid out whole written is front = tt
+fails_at_end told wrong (Err fault) scheme records some before last start mid out whole written is front =
+    subst (λ (r : Result (Unit {0}) ReadingFault). IfErr r (λ f. FailsAtEnd f told wrong scheme records start out)) (sym is)
     (some, (before ++ last, whole, front_after start mid out before last written front))

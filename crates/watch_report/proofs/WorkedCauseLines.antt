@@ -16,6 +16,9 @@ other_harts = refl
 pub other_spaces : lines.other_spaces
 other_spaces = refl
 
+pub spaces_of_kernel : lines.spaces_of_kernel
+spaces_of_kernel = refl
+
 pub other_pages : lines.other_pages
 other_pages = refl
 
@@ -70,7 +73,7 @@ pub last_first : lines.last_first
 unfolding number_of_first
 last_first is = let other : 1 ≡ 2 = ap number_of_first is in omega (arith, other)
 
-pub ruleset cause_texts = (no_flush, no_fence, other_harts, other_spaces, other_pages, not_done)
+pub ruleset cause_texts = (no_flush, no_fence, other_harts, other_spaces, spaces_of_kernel, other_pages, not_done)
 
 pub ruleset cause_lines = (claim_begins, free_begins, one_finding, one_kind, each_kind)
 

@@ -1,5 +1,5 @@
 -- The worked reports, computed.
-use Rattle.std.proofs.Common.{◌≡◌, ℕ, codes, true, false, List, [], ◌∷◌, ◌++◌, Option, Some, None, inl, inr, refl, sym, ap, ◌∙◌, length, arith}
+use Rattle.std.proofs.Common.{◌≡◌, ℕ, codes, true, false, List, [], ◌∷◌, ◌++◌, Option, Some, None, inl, inr, refl, sym, ap, subst, ◌∙◌, length, arith}
 use Rattle.std.specs.Fmt.{digits}
 use Rattle.std.specs.Str.{bytes_eq}
 use Rattle.std.proofs.lemmas.Bool.{false≢true}
@@ -10,13 +10,16 @@ use Rattle.watch.specs.declared.trace.Verdict.{Verdict}
 use Rattle.watch.specs.declared.trace.Verdict.TheVariants.{Free, Reuse, Claimed, Used}
 use Rattle.watch.specs.Holding.{Translation}
 use Rattle.watch.specs.Verdicts.{IsGiven}
-use Rattle.watch_engine.specs.Warnings.{AreWarnings}
+use Rattle.watch_engine.specs.declared.warning.Warning.{Warning}
+use Rattle.watch_engine.specs.Warnings.{AreWarnings, shown_of}
 use Rattle.watch_report.specs.declared.line_fault.LineFault.{LineFault}
+use Rattle.watch_report.specs.Filters.{no_filter}
 use Rattle.watch_report.specs.TraceText.{Noted, body_of}
 use Rattle.watch_report.specs.declared.detail.Detail.TheVariants.{Causes, Counts, Verdicts}
-use Rattle.watch_report.specs.Reports.{WholeText, told_text}
-use Rattle.watch_report.specs.VerdictLines.{GivesVerdict}
+use Rattle.watch_report.specs.Reports.{WholeText, end_text, told_text}
+use Rattle.watch_report.specs.VerdictLines.{AreGiven, GivesVerdict}
 use Rattle.watch_report.specs.WorkedReports as rows
+use Rattle.watch_report.proofs.FilterLemmas.{all_taken}
 
 -- no verdict at the first record, which is an access
 nothing_given : (scheme : Scheme) (verdict : Verdict) (of address hart : ℕ) (x : Translation) → IsGiven scheme verdict (Use of address) [] hart x → ⊥
@@ -33,22 +36,27 @@ none_at_first scheme of address =
       once = λ i j d before among. absurd (omega (arith, among));
     }
 
-gives_none : (scheme : Scheme) (of address : ℕ) → GivesVerdict scheme (Use of address ∷ []) → ⊥
-gives_none scheme of address (inl (verdict, hart, x, due)) = nothing_given scheme verdict of address hart x due.given
+gives_none : (scheme : Scheme) (of address : ℕ) → GivesVerdict no_filter scheme (Use of address ∷ []) → ⊥
+gives_none scheme of address (inl (verdict, hart, x, due, passes)) = nothing_given scheme verdict of address hart x due.given
 gives_none scheme of address (inr nothing) = nothing
 
-whole : (scheme : Scheme) (of address : ℕ) (by : List ℕ) (line : ℕ) → WholeText (rows.about Verdicts) scheme (record { made = Use of address; by = by; line = line } ∷ []) false (codes "1 record, no verdict\n")
+whole : (scheme : Scheme) (of address : ℕ) (by : List ℕ) (line : ℕ) → WholeText (rows.about Verdicts) None scheme (record { made = Use of address; by = by; line = line } ∷ []) false (codes "1 record, no verdict\n")
 unfolding digits
-whole scheme of address by line = ([] ∷ [], (none_at_first scheme of address, tt), refl, (λ t. absurd (false≢true t), λ gives. absurd (gives_none scheme of address gives)))
+whole scheme of address by line = ([] ∷ [], ([] ∷ [], (none_at_first scheme of address, tt), refl), refl, (λ t. absurd (false≢true t), λ gives. absurd (gives_none scheme of address gives)))
+
+-- the last line says which line is wrong
+before_a_fault : (of address : ℕ) (by : List ℕ) (line : ℕ) → WholeText (rows.about Verdicts) (Some 3) Sv39 (record { made = Use of address; by = by; line = line } ∷ []) false (codes "1 record before line 3, no verdict\n")
+unfolding digits
+before_a_fault of address by line = ([] ∷ [], ([] ∷ [], (none_at_first Sv39 of address, tt), refl), refl, (λ t. absurd (false≢true t), λ gives. absurd (gives_none Sv39 of address gives)))
 
 -- nor is anything told in another detail
-whole_by_causes : (of address : ℕ) (by : List ℕ) (line : ℕ) → WholeText (rows.about Causes) Sv39 (record { made = Use of address; by = by; line = line } ∷ []) false (codes "1 record, no verdict\n")
+whole_by_causes : (of address : ℕ) (by : List ℕ) (line : ℕ) → WholeText (rows.about Causes) None Sv39 (record { made = Use of address; by = by; line = line } ∷ []) false (codes "1 record, no verdict\n")
 unfolding digits
-whole_by_causes of address by line = ([] ∷ [], (none_at_first Sv39 of address, tt), refl, (λ t. absurd (false≢true t), λ gives. absurd (gives_none Sv39 of address gives)))
+whole_by_causes of address by line = ([] ∷ [], ([] ∷ [], (none_at_first Sv39 of address, tt), refl), refl, (λ t. absurd (false≢true t), λ gives. absurd (gives_none Sv39 of address gives)))
 
-whole_by_counts : (of address : ℕ) (by : List ℕ) (line : ℕ) → WholeText (rows.about Counts) Sv39 (record { made = Use of address; by = by; line = line } ∷ []) false (codes "1 record, no verdict\n")
+whole_by_counts : (of address : ℕ) (by : List ℕ) (line : ℕ) → WholeText (rows.about Counts) None Sv39 (record { made = Use of address; by = by; line = line } ∷ []) false (codes "1 record, no verdict\n")
 unfolding digits
-whole_by_counts of address by line = ([] ∷ [], (none_at_first Sv39 of address, tt), refl, (λ t. absurd (false≢true t), λ gives. absurd (gives_none Sv39 of address gives)))
+whole_by_counts of address by line = ([] ∷ [], ([] ∷ [], (none_at_first Sv39 of address, tt), refl), refl, (λ t. absurd (false≢true t), λ gives. absurd (gives_none Sv39 of address gives)))
 
 pub done : rows.done
 unfolding rows.PrintsBy
@@ -62,7 +70,7 @@ done_without_a_feed = (refl, (_, whole Sv48 1 0x1000 [] 2, refl))
 
 pub header_alone : rows.header_alone
 unfolding digits rows.PrintsBy
-header_alone = (refl, (codes "0 records, no verdict\n", ([], tt, refl, (λ t. absurd (false≢true t), λ gives. absurd gives)), refl))
+header_alone = (refl, (codes "0 records, no verdict\n", ([], ([], tt, refl), refl, (λ t. absurd (false≢true t), λ gives. absurd gives)), refl))
 
 pub no_line : rows.no_line
 unfolding rows.PrintsBy
@@ -74,11 +82,11 @@ no_header = (refl, refl, ([], (refl, refl), refl))
 
 pub faulty : rows.faulty
 unfolding rows.PrintsBy
-faulty = (refl, refl, (_, whole Sv39 0 0x1000 [] 2, refl))
+faulty = (refl, refl, (_, before_a_fault 0 0x1000 [] 2, refl))
 
 pub torn : rows.torn
 unfolding rows.PrintsBy
-torn = ([], body_of rows.used_once, refl, ([], ([], tt, refl), refl))
+torn = ([], body_of rows.used_once, refl, ([], ([], ([], tt, refl), refl), refl))
 
 pub cut_off : rows.cut_off
 unfolding rows.PrintsBy
@@ -86,7 +94,7 @@ cut_off = inr (false, (_, whole Sv39 1 0x1000 (codes "here") 5, (5, refl)))
 
 pub cut_off_at_a_fault : rows.cut_off_at_a_fault
 unfolding rows.PrintsBy
-cut_off_at_a_fault = inr (false, (_, whole Sv39 0 0x1000 [] 2, (5, refl)))
+cut_off_at_a_fault = inr (false, (_, before_a_fault 0 0x1000 [] 2, (5, refl)))
 
 pub ruleset endings = (done, done_without_a_feed, header_alone, no_line, no_header, faulty, torn, cut_off, cut_off_at_a_fault)
 
@@ -143,7 +151,25 @@ pub no_last_line_at_a_fault : rows.no_last_line_at_a_fault
 unfolding digits rows.PrintsBy
 no_last_line_at_a_fault (number, fault, (text, (given, are, is, says), written)) = no_end (told_text (rows.about Verdicts) Sv39 one_use given) _ _ (written ∙ is)
 
-pub ruleset refusals = (other_line, other_fault, done_with_a_fault, warned_without_a_verdict, warned_at_a_fault, warned_without_a_header, no_last_line_at_a_fault, nothing_printed)
+differ : (told other : List ℕ) → bytes_eq told other ≡ false → bytes_eq other other ≡ true → told ≡ other → ⊥
+differ told other is self same = false≢true (sym is ∙ ap (λ (t : List ℕ). bytes_eq t other) same ∙ self)
+
+-- no warnings at the one record give a last line as of a whole trace
+never_whole : (given : List (List Warning)) → AreGiven Sv39 one_use given
+    → codes "1 record, no verdict\n" ≡ told_text (rows.about Verdicts) Sv39 one_use given ++ end_text (rows.about Verdicts) (Some 3) Sv39 one_use given → ⊥
+unfolding digits
+never_whole [] are e = are
+never_whole ([] ∷ []) are e = differ _ _ refl refl e
+never_whole ([] ∷ more ∷ given) are e = are.1
+never_whole ((w ∷ warnings) ∷ given) are e =
+    gives_none Sv39 0 0x1000 (inl (w.verdict, w.hart, shown_of w, (are.0.each w (0, omega arith, refl)).0, refl))
+
+pub whole_at_a_fault : rows.whole_at_a_fault
+unfolding rows.PrintsBy
+whole_at_a_fault (number, fault, (text, (given, (all, are, taken), is, says), written)) =
+    never_whole given (subst (AreGiven Sv39 one_use) (sym (taken ∙ all_taken all)) are) (written ∙ is)
+
+pub ruleset refusals = (other_line, other_fault, done_with_a_fault, warned_without_a_verdict, warned_at_a_fault, warned_without_a_header, whole_at_a_fault, no_last_line_at_a_fault, nothing_printed)
 
 -- ---- verdicts
 
@@ -167,9 +193,6 @@ unfolding digits
 counts_alone = (refl, refl)
 
 pub ruleset texts = (lines_of_records, lines_of_verdicts, lines_of_cause, lines_of_causes, counts_alone)
-
-differ : (told other : List ℕ) → bytes_eq told other ≡ false → bytes_eq other other ≡ true → told ≡ other → ⊥
-differ told other is self same = false≢true (sym is ∙ ap (λ (t : List ℕ). bytes_eq t other) same ∙ self)
 
 pub numbers_of_records : rows.numbers_of_records
 unfolding digits

@@ -47,6 +47,14 @@ pub all_verdicts : lines.all_verdicts
 unfolding digits
 all_verdicts = refl
 
+pub before_a_wrong_line : lines.before_a_wrong_line
+unfolding digits
+before_a_wrong_line = refl
+
+pub one_before_a_wrong_line : lines.one_before_a_wrong_line
+unfolding digits
+one_before_a_wrong_line = refl
+
 pub ruleset warning_lines = (given_back, given_out, below_a_global_pointer, claimed, used)
 
-pub ruleset summary_lines = (no_verdict, one_record, one_verdict, some_verdicts, verdicts_of_both, all_verdicts)
+pub ruleset summary_lines = (no_verdict, one_record, one_verdict, some_verdicts, verdicts_of_both, all_verdicts, before_a_wrong_line, one_before_a_wrong_line)

@@ -1,5 +1,5 @@
 -- What is printed of the causes of verdicts, and in which order at the end.
-use Rattle.std.specs.Prelude.{ℕ, Bool, true, false, ◌+◌, nat_lt, not, if◌then◌else◌, codes, List, [], ◌∷◌, ◌++◌}
+use Rattle.std.specs.Prelude.{ℕ, Bool, true, false, ◌≡◌, ◌+◌, ◌<◌, ◌≤◌, length, nat_lt, not, slice_index_or, if◌then◌else◌, codes, List, [], ◌∷◌, ◌++◌}
 use Rattle.std.specs.Fmt.{decimal}
 use Rattle.watch_causes.specs.declared.finding.Cause.{Cause}
 use Rattle.watch_causes.specs.declared.reason.Reason.{Reason}
@@ -14,20 +14,26 @@ use Rattle.watch_report.specs.Warnings.{counted_text, place_text, verdict_counts
 abbrev pub owner_text : Bool → List ℕ
 owner_text global = if global then codes "kernel" else codes "user"
 
-abbrev pub reason_text : Reason → List ℕ
-reason_text NoFlush = codes "no flush of the page had begun"
-reason_text NoFence = codes "its flush asked for no fence"
-reason_text OtherHarts = codes "its flush asked for no fence on this hart"
-reason_text OtherSpaces =
-    codes "its flush fenced another ASID, or some ASID while the page is global"
-reason_text OtherPages = codes "its flush fenced other pages"
-reason_text NotDone = codes "its flush asked for a fence that was not done yet"
+-- by its ASID no fence took the translation out
+abbrev pub spaces_text : Bool → List ℕ
+spaces_text global =
+    if global then codes "its flush fenced by ASID, which leaves global pages"
+    else codes "its flush fenced another ASID"
+
+-- of pages that are global or not
+abbrev pub cause_reason_text : Bool → Reason → List ℕ
+cause_reason_text global NoFlush = codes "no flush of the page has begun since"
+cause_reason_text global NoFence = codes "its flush asked for no fence"
+cause_reason_text global OtherHarts = codes "its flush asked for no fence on this hart"
+cause_reason_text global OtherSpaces = spaces_text global
+cause_reason_text global OtherPages = codes "its flush fenced other pages"
+cause_reason_text global NotDone = codes "its flush asked for a fence that was not done yet"
 
 -- OWNER pages, first VERDICT: REASON
 abbrev pub cause_text : Cause → List ℕ
 cause_text cause =
     owner_text cause.global ++ codes " pages, first " ++ verdict_text cause.first ++ codes ": "
-    ++ reason_text cause.reason
+    ++ cause_reason_text cause.global cause.reason
 
 -- cause N: OWNER pages, first VERDICT: REASON
 abbrev pub cause_part : ℕ → Cause → List ℕ
@@ -77,6 +83,12 @@ comes_before a b =
     by_test (is_of_users a) (is_of_users b)
     (by_test (has_reuse a) (has_reuse b) (nat_lt b.tally.findings a.tally.findings))
 
+-- none comes before one that stands in front of it
+abbrev pub AreInOrder : List NumberedTally → Type 0
+AreInOrder ones =
+    (front back : ℕ) (d : NumberedTally) → front ≤ back → back < length ones
+    → comes_before (slice_index_or ones back d) (slice_index_or ones front d) ≡ false
+
 -- a cause that began before these, which are in order: it is put behind those that come before it
 abbrev pub placed : NumberedTally → List NumberedTally → List NumberedTally
 placed one [] = one ∷ []
@@ -85,6 +97,11 @@ placed one (next ∷ ones) =
 
 abbrev pub numbered : ℕ → Tally → NumberedTally
 numbered number t = record { number = number; tally = t }
+
+-- in the order in which they began; the first of these has this number
+abbrev pub numbered_from : ℕ → List Tally → List NumberedTally
+numbered_from number [] = []
+numbered_from number (t ∷ tallies) = numbered number t ∷ numbered_from (number + 1) tallies
 
 -- the first of these has this number
 abbrev pub ordered_from : ℕ → List Tally → List NumberedTally

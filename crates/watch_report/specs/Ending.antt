@@ -18,7 +18,7 @@ Tells told (Ok header) lines text = VerdictText told header.scheme (records_of h
 abbrev pub TellsAll : Told → Result Header (List ℕ) → List (List ℕ) → Bool → List ℕ → Type 0
 TellsAll told (Err first) lines some text = (some ≡ false) × (text ≡ [])
 TellsAll told (Ok header) lines some text =
-    WholeText told header.scheme (records_of header lines) some text
+    WholeText told (faulty_line (Ok header) lines) header.scheme (records_of header lines) some text
 
 -- what was written is so of the first of the lines, some or all
 abbrev pub EndsWithin : ((List ℕ → Type 0) → Option (List ℕ) → Option (List ℕ) → Type 0)

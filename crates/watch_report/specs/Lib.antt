@@ -16,6 +16,7 @@ pub mod TextEnds
 pub mod NoteTexts
 pub mod LineNumbers
 pub mod Past
+pub mod Filters
 pub mod VerdictLines
 pub mod Reports
 pub mod Telling
@@ -23,6 +24,7 @@ pub mod Output
 pub mod Reading
 pub mod Ending
 pub mod WorkedReports
+pub mod WorkedFilters
 pub mod LineForms
 pub mod LineFaults
 pub mod ReasonTexts

@@ -1,5 +1,5 @@
 -- Why a line has no form, and where: the first fault from the left.
-use Rattle.std.specs.Prelude.{ℕ, Bool, ◌==◌, ◌&&◌, ◌||◌, ◌+◌, ◌-◌, ◌/◌, ◌%◌, ◌^◌, nat_eq, nat_lt, nat_le, max, codes, List, [], ◌∷◌, get_or, length}
+use Rattle.std.specs.Prelude.{ℕ, Bool, ◌==◌, ◌&&◌, ◌||◌, ◌+◌, ◌-◌, ◌/◌, ◌%◌, ◌^◌, nat_eq, nat_lt, nat_le, not, max, codes, List, [], ◌∷◌, drop, get_or, length}
 use Rattle.std.specs.Prelude.{Option, Some, None, option_map, is_some, if◌then◌else◌}
 use Rattle.std.specs.Char.{digit_value}
 use Rattle.std.specs.List.{before_first, list_all, position_or_len, starts_with}
@@ -9,7 +9,7 @@ use Rattle.pte.specs.declared.scheme.Scheme.TheVariants.{Sv39}
 use Rattle.watch_report.specs.declared.header.Header.{Header}
 use Rattle.watch_report.specs.declared.line_fault.LineFault.{LineFault}
 use Rattle.watch_report.specs.declared.line_fault.LineReason.{LineReason}
-use Rattle.watch_report.specs.declared.line_fault.LineReason.TheVariants.{EmptyStart, NoTrace, OtherVersion, OtherHarts, OtherScheme, ByteOrderMark, CarriageReturn, Tab, Space, OtherLetter, Missing, Excess, NotDecimal, NotHexadecimal, NotOptional, Prefixed, TooLong, NoHart, Unaligned, WideAsid, OtherMode, NoSpace}
+use Rattle.watch_report.specs.declared.line_fault.LineReason.TheVariants.{EmptyStart, NoTrace, LogTime, OtherVersion, OtherHarts, OtherScheme, ByteOrderMark, ZeroByte, CarriageReturn, Tab, OtherByte, Space, OtherLetter, Missing, Excess, NotDecimal, NotHexadecimal, NotOptional, Prefixed, TooLong, NoHart, Unaligned, WideAsid, OtherMode, NoSpace}
 use Rattle.watch_report.specs.declared.line_form.Field.{Field}
 use Rattle.watch_report.specs.declared.line_form.FieldKind.{FieldKind}
 use Rattle.watch_report.specs.declared.line_form.FieldKind.TheVariants as kinds
@@ -55,15 +55,20 @@ optional_reason field word wrong =
     if bytes_eq word (codes "-") then None
     else or_wrong (hexadecimal_field word) (number_reason 16 (NotOptional field) word) wrong
 
--- why the first word is not `watch`: the bytes of a byte order mark may stand before it
-abbrev pub name_reason : List ℕ → LineReason
-name_reason word =
-    if starts_with nat_eq word (0xEF ∷ 0xBB ∷ 0xBF ∷ []) then ByteOrderMark else NoTrace
+-- a time begins so that the log of a kernel puts before a line: `[` alone, or before a digit
+abbrev pub begins_time : List ℕ → Bool
+begins_time word =
+    if nat_lt (length word) 2 then bytes_eq word (codes "[")
+    else (get_or word 0 0 == 0x5B) && nat_lt (digit_value (get_or word 1 0)) 10
+
+-- why the first word of a line is none that may stand there
+abbrev pub first_reason : LineReason → List ℕ → LineReason
+first_reason other word = if begins_time word then LogTime else other
 
 -- why a word is none that a field may hold
 abbrev pub kind_reason : Header → Field → List ℕ → FieldKind → Option LineReason
 kind_reason machine field word kinds.Name =
-    unless (bytes_eq word (codes "watch")) (name_reason word)
+    unless (bytes_eq word (codes "watch")) (first_reason NoTrace word)
 kind_reason machine field word kinds.Version = unless (bytes_eq word (codes "1")) OtherVersion
 kind_reason machine field word kinds.HartCount =
     decimal_reason field word (λ n. unless (nat_lt 0 n && nat_le n 64) (OtherHarts n))
@@ -86,17 +91,35 @@ word_reason machine field word = kind_reason machine field word (kind_of field)
 abbrev pub fault_at : ℕ → LineReason → LineFault
 fault_at column reason = record { column = column; reason = reason }
 
--- where the first tab of a word stands, from 0 on, or its length
-abbrev pub first_tab : List ℕ → ℕ
-first_tab word = position_or_len (λ byte. byte == 9) word
+-- words are of such bytes alone
+abbrev pub is_printable : ℕ → Bool
+is_printable byte = nat_lt 32 byte && nat_lt byte 127
+
+-- where the first other byte of a word stands, from 0 on, or its length
+abbrev pub first_wrong : List ℕ → ℕ
+first_wrong word = position_or_len (λ byte. not (is_printable byte)) word
+
+-- what another byte is
+abbrev pub byte_reason : ℕ → LineReason
+byte_reason byte =
+    if byte == 0 then ZeroByte
+    else if byte == 9 then Tab
+    else if byte == 13 then CarriageReturn
+    else OtherByte byte
+
+-- what the first of these bytes is
+abbrev pub bytes_reason : List ℕ → LineReason
+bytes_reason bytes =
+    if starts_with nat_eq bytes (0xEF ∷ 0xBB ∷ 0xBF ∷ []) then ByteOrderMark
+    else byte_reason (get_or bytes 0 0)
 
 -- the fault of a wrong word, before which so many bytes stand: a space too many makes an empty word,
--- and what ends in a carriage return or has a tab in it is wrong there
+-- and what has a byte in it that no word has is wrong at the first of these
 abbrev pub wrong_word : ℕ → List ℕ → LineReason → LineFault
 wrong_word before word reason =
     if length word == 0 then fault_at (max before 1) Space
-    else if get_or word (length word - 1) 0 == 13 then fault_at (before + length word) CarriageReturn
-    else if nat_lt (first_tab word) (length word) then fault_at (before + first_tab word + 1) Tab
+    else if nat_lt (first_wrong word) (length word) then
+    fault_at (before + first_wrong word + 1) (bytes_reason (drop (first_wrong word) word))
     else fault_at (before + 1) reason
 
 abbrev pub word_fault : Header → Field → ℕ → List ℕ → Option LineFault
@@ -144,7 +167,8 @@ header_fault text =
 
 -- by the form that the letter has, if it has one
 abbrev pub fields_fault : Header → List ℕ → List (List ℕ) → Option LineForm → Option LineFault
-fields_fault machine letter words None = Some (wrong_word 0 letter OtherLetter)
+fields_fault machine letter words None =
+    Some (wrong_word 0 letter (first_reason OtherLetter letter))
 fields_fault machine letter words (Some form) =
     words_fault machine form (form_fields form) (length letter + 1) words
 

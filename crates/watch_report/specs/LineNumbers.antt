@@ -33,6 +33,11 @@ pub record AreRuns (records : List Noted) (count : ℕ) (runs : List Run) : Type
   pub line : (number : ℕ) → 0 < number → number ≤ length records
       → line_by 0 runs number ≡ line_at records number
 
+-- the next line is the one right behind the last run, if there is one
+abbrev pub IsNext : ℕ → ℕ → List Run → Type 0
+IsNext next count runs = (d : Run) → 0 < length runs → next ≡ behind d runs (length runs) (count + 1)
+
 -- these are the lines of the records
-abbrev pub AreLines : List Noted → Lines → Type 0
-AreLines records lines = AreRuns records lines.count lines.runs.items
+pub record AreLines (records : List Noted) (lines : Lines) : Type 0 where
+  pub runs : AreRuns records lines.count lines.runs.items
+  pub next : IsNext lines.next lines.count lines.runs.items

@@ -5,6 +5,7 @@ use Rattle.watch_engine.specs.declared.warning.Warning.{Warning}
 use Rattle.watch_engine.specs.Watching.{Follows}
 use Rattle.watch_tables.specs.Words.{since, words}
 use Rattle.watch_report.specs.declared.fault.ReportFault.{ReportFault}
+use Rattle.watch_report.specs.declared.filter.Filter.{Filter}
 use Rattle.watch_report.specs.declared.fault.ReportFault.TheVariants as reported
 use Rattle.watch_report.specs.declared.reading_fault.ReadingFault.{ReadingFault}
 use Rattle.watch_report.specs.declared.reading_fault.ReadingFault.TheVariants.{Unreadable, Output, NoMemory}
@@ -15,9 +16,9 @@ use Rattle.watch_report.specs.TraceLines.{line_in}
 use Rattle.watch_report.specs.Past.{ArePast}
 use Rattle.watch_report.specs.Output.{WritesAll, WritesFront}
 use Rattle.watch_report.specs.TraceText.{Noted, has_no_form, lines_of, trace_of, with_record}
-use Rattle.watch_report.specs.Reports.{Told, VerdictText, WholeText, told_text}
+use Rattle.watch_report.specs.Reports.{Told, VerdictText, WholeText, told_at, told_text}
 use Rattle.watch_report.specs.Telling.{IsTelling}
-use Rattle.watch_report.specs.VerdictLines.{AreGiven, counts_of}
+use Rattle.watch_report.specs.VerdictLines.{AreTold, counts_of}
 use Rattle.watch_report.specs.declared.detail.Detail.{Detail}
 
 -- the bytes are the line, and its line feed if more come after it
@@ -48,23 +49,31 @@ report_fault_of Unreadable = reported.Unreadable
 report_fault_of Output = reported.Output
 report_fault_of NoMemory = reported.NoMemory
 
--- these records were read, with these warnings
-pub record HasSeen (detail : Detail) (records : List Noted) (given : List (List Warning))
+-- these records were read, with these warnings that the filter takes
+pub record HasSeen (detail : Detail) (filter : Filter) (records : List Noted) (given : List (List Warning))
     (r : Reading) : Type 0 where
   pub follows : Follows words since (trace_of records) r.watch
   pub scheme : r.watch.scheme ≡ r.header.scheme
-  pub are : AreGiven r.header.scheme records given
+  pub filter_is : r.filter ≡ filter
+  pub are : AreTold filter r.header.scheme records given
   pub number : r.records ≡ length records
   pub past : ArePast records r.past
   pub telling : IsTelling detail r.header.scheme records given r.telling
   pub user : r.user ≡ counts_of false given
   pub kernel : r.kernel ≡ counts_of true given
 
+-- one more was read, of which this is told
+pub record TellsMore (detail : Detail) (filter : Filter) (file : List ℕ) (newest : Noted) (records : List Noted)
+    (given : List (List Warning)) (text : List ℕ) (r : Reading) : Type 0 where
+  pub warnings : List Warning
+  pub seen : HasSeen detail filter (newest ∷ records) (warnings ∷ given) r
+  pub told : text ≡ told_at detail file r.header.scheme newest records warnings given
+
 -- and what is told of them was written
 pub record Stands (told : Told) (start out : Option (List ℕ)) (records : List Noted)
     (r : Reading) : Type 0 where
   pub given : List (List Warning)
-  pub seen : HasSeen told.detail records given r
+  pub seen : HasSeen told.detail told.filter records given r
   pub written : Appends start out (told_text told r.header.scheme records given)
 
 -- what was written where a step fails at a record, a line, or the end, after these records
@@ -86,10 +95,10 @@ FailsAtLine Output told header number line records start out =
 FailsAtLine NoMemory told header number line records start out =
     WritesAll (VerdictText told header.scheme records) start out
 
-abbrev pub FailsAtEnd : ReadingFault → Told → Scheme → List Noted → Option (List ℕ)
+abbrev pub FailsAtEnd : ReadingFault → Told → Option ℕ → Scheme → List Noted → Option (List ℕ)
     → Option (List ℕ) → Type 0
-FailsAtEnd Unreadable told scheme records start out = ⊥
-FailsAtEnd Output told scheme records start out =
-    (some : Bool) × WritesFront (WholeText told scheme records some) start out
-FailsAtEnd NoMemory told scheme records start out =
+FailsAtEnd Unreadable told wrong scheme records start out = ⊥
+FailsAtEnd Output told wrong scheme records start out =
+    (some : Bool) × WritesFront (WholeText told wrong scheme records some) start out
+FailsAtEnd NoMemory told wrong scheme records start out =
     WritesAll (VerdictText told scheme records) start out

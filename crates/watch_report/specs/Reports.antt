@@ -1,4 +1,5 @@
--- What a report tells: each verdict or each cause as its record comes, and the last lines.
+-- What a report tells, of the verdicts that its filter takes: each verdict or each cause as its record
+-- comes, and the last lines.
 use Rattle.std.specs.Prelude.{ℕ, Bool, ◌≡◌, ◌+◌, ◌↔◌, IsTrue, List, [], ◌∷◌, ◌++◌, Option, Some, None, drop, length}
 use Rattle.pte.specs.declared.scheme.Scheme.{Scheme}
 use Rattle.watch_causes.specs.declared.tally.Tally.{Tally}
@@ -8,18 +9,20 @@ use Rattle.watch_engine.specs.declared.warning.Warning.{Warning}
 use Rattle.watch_report.specs.declared.cause_line.NumberedTally.{NumberedTally}
 use Rattle.watch_report.specs.declared.detail.Detail.{Detail}
 use Rattle.watch_report.specs.declared.detail.Detail.TheVariants.{Causes, Counts, Verdicts}
+use Rattle.watch_report.specs.declared.filter.Filter.{Filter}
 use Rattle.watch_report.specs.declared.warning.Trigger.{Trigger}
 use Rattle.watch_report.specs.CauseLines.{block_text, ordered, total_line}
 use Rattle.watch_report.specs.TraceText.{Noted, line_at, note_at, trace_of}
-use Rattle.watch_report.specs.VerdictLines.{AreGiven, GivesVerdict, printed_of, record_lines, summary_of, trigger_of}
+use Rattle.watch_report.specs.VerdictLines.{AreTold, GivesVerdict, printed_of, record_lines, summary_of, trigger_of}
 
--- what a report tells of, and the name of the file
+-- what a report tells, of which verdicts, and the name of the file
 pub record Told : Type 0 where
   pub detail : Detail
+  pub filter : Filter
   pub file : List ℕ
 
-abbrev pub told_of : Detail → List ℕ → Told
-told_of detail file = record { detail = detail; file = file }
+abbrev pub told_of : Detail → Filter → List ℕ → Told
+told_of detail filter file = record { detail = detail; filter = filter; file = file }
 
 -- ---- by causes
 
@@ -83,22 +86,22 @@ totals_by Causes file scheme records given =
     total_lines file records (ordered (tallies_after scheme records given))
 totals_by Counts file scheme records given = []
 
--- and the last line
-abbrev pub end_text : Told → Scheme → List Noted → List (List Warning) → List ℕ
-end_text told scheme records given =
-    totals_by told.detail told.file scheme records given ++ summary_of records given
+-- and the last line, which says which line is wrong, if one is
+abbrev pub end_text : Told → Option ℕ → Scheme → List Noted → List (List Warning) → List ℕ
+end_text told wrong scheme records given =
+    totals_by told.detail told.file scheme records given ++ summary_of wrong records given
 
 -- ---- the whole
 
--- what is printed of the verdicts on the records
+-- what is printed of the verdicts on the records that the filter takes
 abbrev pub VerdictText : Told → Scheme → List Noted → List ℕ → Type 0
 VerdictText told scheme records text =
-    (given : List (List Warning)) × AreGiven scheme records given
+    (given : List (List Warning)) × AreTold told.filter scheme records given
     × (text ≡ told_text told scheme records given)
 
--- and after that the last lines; and whether there is a verdict
-abbrev pub WholeText : Told → Scheme → List Noted → Bool → List ℕ → Type 0
-WholeText told scheme records some text =
-    (given : List (List Warning)) × AreGiven scheme records given
-    × (text ≡ told_text told scheme records given ++ end_text told scheme records given)
-    × (IsTrue some ↔ GivesVerdict scheme (trace_of records))
+-- and after that the last lines; and whether there is such a verdict
+abbrev pub WholeText : Told → Option ℕ → Scheme → List Noted → Bool → List ℕ → Type 0
+WholeText told wrong scheme records some text =
+    (given : List (List Warning)) × AreTold told.filter scheme records given
+    × (text ≡ told_text told scheme records given ++ end_text told wrong scheme records given)
+    × (IsTrue some ↔ GivesVerdict told.filter scheme (trace_of records))

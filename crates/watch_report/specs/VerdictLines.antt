@@ -1,5 +1,5 @@
 -- The verdicts on a trace, and what is printed of them.
-use Rattle.std.specs.Prelude.{ℕ, Bool, true, false, ◌+◌, ◌⊎◌, if◌then◌else◌}
+use Rattle.std.specs.Prelude.{ℕ, Bool, true, false, ◌≡◌, ◌+◌, ◌⊎◌, if◌then◌else◌}
 use Rattle.std.specs.Prelude.{List, [], ◌∷◌, ◌++◌, length, Option, Some, None, option_map}
 use Rattle.pte.specs.declared.scheme.Scheme.{Scheme}
 use Rattle.watch.specs.declared.trace.Record.{Record}
@@ -12,22 +12,25 @@ use Rattle.watch_engine.specs.declared.warning.Warning.{Warning}
 use Rattle.watch_engine.specs.Open.{claim_begun}
 use Rattle.watch_engine.specs.Warnings.{AreWarnings, IsDue}
 use Rattle.watch_report.specs.declared.counts.VerdictCounts.{VerdictCounts}
+use Rattle.watch_report.specs.declared.filter.Filter.{Filter}
 use Rattle.watch_report.specs.declared.newest.Newest.{Newest}
 use Rattle.watch_report.specs.declared.warning.Trigger.{Trigger}
 use Rattle.watch_report.specs.declared.warning.Trigger.TheVariants.{GivenBack, GivenOut, ClaimedSince, UsedAt}
 use Rattle.watch_report.specs.declared.warning.Warning.{Warning as PrintedWarning}
+use Rattle.watch_report.specs.Filters.{taken, takes_of}
 use Rattle.watch_report.specs.Warnings.{summary_line, warning_line}
 use Rattle.watch_report.specs.TraceText.{Noted, line_at, note_at, trace_of}
 
--- a verdict is given at some record of the trace, and is new there
-abbrev pub GivesAt : Scheme → Record → Trace → Type 0
-GivesAt scheme newest trace =
+-- a verdict that the filter takes is given at some record of the trace, and is new there
+abbrev pub GivesAt : Filter → Scheme → Record → Trace → Type 0
+GivesAt filter scheme newest trace =
     (verdict : Verdict) × (hart : ℕ) × (x : Translation) × IsDue scheme verdict newest trace hart x
+    × (takes_of filter verdict hart x.entry ≡ true)
 
-abbrev pub GivesVerdict : Scheme → Trace → Type 0
-GivesVerdict scheme [] = ⊥
-GivesVerdict scheme (newest ∷ trace) =
-    GivesAt scheme newest trace ⊎ GivesVerdict scheme trace
+abbrev pub GivesVerdict : Filter → Scheme → Trace → Type 0
+GivesVerdict filter scheme [] = ⊥
+GivesVerdict filter scheme (newest ∷ trace) =
+    GivesAt filter scheme newest trace ⊎ GivesVerdict filter scheme trace
 
 -- these are the warnings at each record, at the newest first
 abbrev pub AreGiven : Scheme → List Noted → List (List Warning) → Type 0
@@ -36,6 +39,11 @@ AreGiven scheme [] (warnings ∷ given) = ⊥
 AreGiven scheme (newest ∷ records) [] = ⊥
 AreGiven scheme (newest ∷ records) (warnings ∷ given) =
     AreWarnings scheme newest.made (trace_of records) warnings × AreGiven scheme records given
+
+-- and these are the ones that the filter takes
+abbrev pub AreTold : Filter → Scheme → List Noted → List (List Warning) → Type 0
+AreTold filter scheme records told =
+    (given : List (List Warning)) × AreGiven scheme records given × (told ≡ taken filter given)
 
 -- ---- their lines
 
@@ -108,6 +116,7 @@ abbrev pub counts_of : Bool → List (List Warning) → VerdictCounts
 counts_of kernel [] = no_counts
 counts_of kernel (warnings ∷ given) = counts_after kernel (counts_of kernel given) warnings
 
-abbrev pub summary_of : List Noted → List (List Warning) → List ℕ
-summary_of records given =
-    summary_line (length records) (counts_of false given) (counts_of true given)
+-- the last line, where the line of a number may be wrong
+abbrev pub summary_of : Option ℕ → List Noted → List (List Warning) → List ℕ
+summary_of wrong records given =
+    summary_line (length records) wrong (counts_of false given) (counts_of true given)

@@ -1,5 +1,5 @@
 -- The lines that `watch` prints.
-use Rattle.std.specs.Prelude.{ℕ, Bool, true, ◌==◌, ◌&&◌, ◌+◌, codes, List, [], ◌∷◌, ◌++◌, length, false, if◌then◌else◌}
+use Rattle.std.specs.Prelude.{ℕ, Bool, true, ◌==◌, ◌&&◌, ◌+◌, codes, List, [], ◌∷◌, ◌++◌, length, false, if◌then◌else◌, Option, Some, None}
 use Rattle.std.specs.Fmt.{decimal, digits}
 use Rattle.pte.specs.Address.{bytes_of}
 use Rattle.pte.specs.Entry.{is_user, may_execute, may_read, may_write}
@@ -140,7 +140,12 @@ total_text user kernel =
     else counted_text (sum_of user + sum_of kernel) (codes " verdict: ") (codes " verdicts: ")
     ++ verdict_counts_text true (all_counts user kernel)
 
-abbrev pub summary_line : ℕ → VerdictCounts → VerdictCounts → List ℕ
-summary_line records user kernel =
-    counted_text records (codes " record, ") (codes " records, ") ++ total_text user kernel
-    ++ codes "\n"
+-- where the records end, if not at the end of the trace: before the line that is wrong
+abbrev pub wrong_text : Option ℕ → List ℕ
+wrong_text None = []
+wrong_text (Some line) = codes " before line " ++ decimal line
+
+abbrev pub summary_line : ℕ → Option ℕ → VerdictCounts → VerdictCounts → List ℕ
+summary_line records wrong user kernel =
+    counted_text records (codes " record") (codes " records") ++ wrong_text wrong ++ codes ", "
+    ++ total_text user kernel ++ codes "\n"

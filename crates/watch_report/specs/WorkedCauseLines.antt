@@ -36,7 +36,8 @@ tally_of cause findings verdicts =
 
 abbrev pub no_flush : Type 0
 no_flush =
-    cause_text (users Used NoFlush) ≡ codes "user pages, first use: no flush of the page had begun"
+    cause_text (users Used NoFlush)
+    ≡ codes "user pages, first use: no flush of the page has begun since"
 
 abbrev pub no_fence : Type 0
 no_fence =
@@ -50,8 +51,13 @@ other_harts =
 
 abbrev pub other_spaces : Type 0
 other_spaces =
+    cause_text (users Free OtherSpaces)
+    ≡ codes "user pages, first free: its flush fenced another ASID"
+
+abbrev pub spaces_of_kernel : Type 0
+spaces_of_kernel =
     cause_text (kernels Free OtherSpaces)
-    ≡ codes "kernel pages, first free: its flush fenced another ASID, or some ASID while the page is global"
+    ≡ codes "kernel pages, first free: its flush fenced by ASID, which leaves global pages"
 
 abbrev pub other_pages : Type 0
 other_pages =
@@ -77,7 +83,7 @@ free_begins =
     block_text (codes "-") 12 (kernels Free NoFlush)
     (warning_of 100 kernel_page (GivenBack (frames_at 0x80200 512))) [] []
     ≡ codes "-:100: kernel-free hart 11 may hold page ffffffc000200000+200000 -> 80200 r-x-g asid any root any, stale since line 6; frames 80200+200 given back\n"
-    ++ codes "  cause 12: kernel pages, first free: no flush of the page had begun\n"
+    ++ codes "  cause 12: kernel pages, first free: no flush of the page has begun since\n"
 
 -- ---- at the end
 
@@ -89,7 +95,7 @@ one_finding =
 abbrev pub one_kind : Type 0
 one_kind =
     total_line (codes "-") 2 (numbered 1 (tally_of (users Used NoFlush) 2 (counts 0 0 0 5)))
-    ≡ codes "-:2: cause 1: user pages, first use: no flush of the page had begun; 2 findings: use 5\n"
+    ≡ codes "-:2: cause 1: user pages, first use: no flush of the page has begun since; 2 findings: use 5\n"
 
 abbrev pub each_kind : Type 0
 each_kind =

@@ -3,7 +3,7 @@ use Rattle.std.specs.Prelude.{◌≡◌, ℕ, codes, List, [], ◌∷◌, ◌++�
 use Rattle.pte.specs.declared.scheme.Scheme.TheVariants.{Sv39, Sv48}
 use Rattle.watch_report.specs.declared.line_fault.LineFault.{LineFault}
 use Rattle.watch_report.specs.declared.line_fault.LineReason.{LineReason}
-use Rattle.watch_report.specs.declared.line_fault.LineReason.TheVariants.{EmptyStart, NoTrace, OtherVersion, OtherHarts, OtherScheme, ByteOrderMark, CarriageReturn, Tab, Space, OtherLetter, Missing, Excess, NotDecimal, NotHexadecimal, NotOptional, Prefixed, TooLong, NoHart, Unaligned, WideAsid, OtherMode, NoSpace}
+use Rattle.watch_report.specs.declared.line_fault.LineReason.TheVariants.{EmptyStart, NoTrace, LogTime, OtherVersion, OtherHarts, OtherScheme, ByteOrderMark, ZeroByte, CarriageReturn, Tab, OtherByte, Space, OtherLetter, Missing, Excess, NotDecimal, NotHexadecimal, NotOptional, Prefixed, TooLong, NoHart, Unaligned, WideAsid, OtherMode, NoSpace}
 use Rattle.watch_report.specs.declared.line_form.Field.TheVariants as fields
 use Rattle.watch_report.specs.declared.line_form.LineForm.TheVariants as forms
 use Rattle.watch_report.specs.LineFaults.{fault_at, fault_of, header_fault}
@@ -12,6 +12,9 @@ use Rattle.watch_report.specs.WorkedLines.{machine}
 
 abbrev pub carriage_return : List ℕ
 carriage_return = 13 ∷ []
+
+abbrev pub byte_order_mark : List ℕ
+byte_order_mark = 0xEF ∷ 0xBB ∷ 0xBF ∷ []
 
 -- a first line is wrong at this column, or it is a header
 abbrev pub BeginsWrong : List ℕ → ℕ → LineReason → Type 0
@@ -71,10 +74,19 @@ header_of_windows = BeginsWrong (codes "watch 1 2 sv39" ++ carriage_return) 15 C
 
 abbrev pub header_after_a_mark : Type 0
 header_after_a_mark =
-    BeginsWrong (0xEF ∷ 0xBB ∷ 0xBF ∷ codes "watch 1 2 sv39") 1 ByteOrderMark
+    BeginsWrong (byte_order_mark ++ codes "watch 1 2 sv39") 1 ByteOrderMark
 
 abbrev pub header_cut_after_a_space : Type 0
 header_cut_after_a_space = BeginsWrong (codes "watch 1 2 ") 11 (Missing forms.Header fields.Scheme)
+
+abbrev pub header_after_a_time : Type 0
+header_after_a_time = BeginsWrong (codes "[    0.000000] watch 1 2 sv39") 1 LogTime
+
+abbrev pub header_after_a_long_time : Type 0
+header_after_a_long_time = BeginsWrong (codes "[12345.678901] watch 1 2 sv39") 1 LogTime
+
+abbrev pub table_of_a_scenario : Type 0
+table_of_a_scenario = BeginsWrong (codes "[setup]") 1 NoTrace
 
 abbrev pub fewest_harts : Type 0
 fewest_harts = IsHeader (codes "watch 1 1 sv39")
@@ -189,6 +201,71 @@ hart_before_the_address = IsWrong (codes "w 12 80000004 g@note") 3 (NoHart 12 11
 abbrev pub address_before_what_is_missing : Type 0
 address_before_what_is_missing = IsWrong (codes "w 0 80000004") 5 (Unaligned 0x80000004)
 
+-- ---- bytes that no word has, of two the first; and times of a kernel's log
+
+abbrev pub mark_before_a_tab : Type 0
+mark_before_a_tab = BeginsWrong (byte_order_mark ++ codes "watch\t1 2 sv39") 1 ByteOrderMark
+
+abbrev pub tab_before_a_mark : Type 0
+tab_before_a_mark = BeginsWrong (codes "\t" ++ byte_order_mark ++ codes "watch 1 2 sv39") 1 Tab
+
+abbrev pub mark_before_a_return : Type 0
+mark_before_a_return = BeginsWrong (byte_order_mark ++ codes "watch\r") 1 ByteOrderMark
+
+abbrev pub tab_before_a_return : Type 0
+tab_before_a_return = IsWrong (codes "u 0\t1000\r") 4 Tab
+
+abbrev pub return_before_a_tab : Type 0
+return_before_a_tab = IsWrong (codes "u 0\r1000\t") 4 CarriageReturn
+
+abbrev pub zero_before_a_tab : Type 0
+zero_before_a_tab = IsWrong (codes "u 0 10" ++ 0 ∷ codes "0\t") 7 ZeroByte
+
+abbrev pub tab_before_a_zero : Type 0
+tab_before_a_zero = IsWrong (codes "u 0 10\t0" ++ 0 ∷ []) 7 Tab
+
+abbrev pub zero_before_a_return : Type 0
+zero_before_a_return = IsWrong (codes "u 0 1000" ++ 0 ∷ carriage_return) 9 ZeroByte
+
+abbrev pub return_before_a_zero : Type 0
+return_before_a_zero = IsWrong (codes "u 0 1000\r" ++ 0 ∷ []) 9 CarriageReturn
+
+abbrev pub zeros_alone : Type 0
+zeros_alone = IsWrong (0 ∷ 0 ∷ 0 ∷ []) 1 ZeroByte
+
+abbrev pub file_of_zeros : Type 0
+file_of_zeros = BeginsWrong (0 ∷ 0 ∷ []) 1 ZeroByte
+
+abbrev pub compressed : Type 0
+compressed = BeginsWrong (0x1F ∷ 0x8B ∷ 8 ∷ 0 ∷ []) 1 (OtherByte 0x1F)
+
+abbrev pub escape_before_a_zero : Type 0
+escape_before_a_zero = IsWrong (codes "u 0 " ++ 0x1B ∷ codes "[0m" ++ 0 ∷ []) 5 (OtherByte 0x1B)
+
+abbrev pub zero_before_an_escape : Type 0
+zero_before_an_escape = IsWrong (codes "u 0 " ++ 0 ∷ 0x1B ∷ []) 5 ZeroByte
+
+abbrev pub delete : Type 0
+delete = IsWrong (codes "u 0 10" ++ 0x7F ∷ []) 7 (OtherByte 0x7F)
+
+abbrev pub letter_with_an_accent : Type 0
+letter_with_an_accent = IsWrong (codes "u 0 10" ++ 0xC3 ∷ 0xA9 ∷ []) 7 (OtherByte 0xC3)
+
+abbrev pub last_printable : Type 0
+last_printable = IsWrong (codes "u 0 10~") 5 (NotHexadecimal fields.VirtualAddress)
+
+abbrev pub line_after_a_time : Type 0
+line_after_a_time = IsWrong (codes "[   12.345678] u 0 1000") 1 LogTime
+
+abbrev pub line_after_a_long_time : Type 0
+line_after_a_long_time = IsWrong (codes "[12345.678901] u 0 1000") 1 LogTime
+
+abbrev pub bracket_and_letter : Type 0
+bracket_and_letter = IsWrong (codes "[u] 0 1000") 1 OtherLetter
+
+abbrev pub bracket_in_a_field : Type 0
+bracket_in_a_field = IsWrong (codes "u 0 [1000") 5 (NotHexadecimal fields.VirtualAddress)
+
 -- ---- lines that just have a form
 
 abbrev pub letters_in_upper_case : Type 0
@@ -223,6 +300,9 @@ noted = HasForm (codes "u 0 1000 @note")
 
 abbrev pub return_in_a_note : Type 0
 return_in_a_note = HasForm (codes "u 0 1000 @note" ++ carriage_return)
+
+abbrev pub zero_in_a_note : Type 0
+zero_in_a_note = HasForm (codes "u 0 1000 @note" ++ 0 ∷ [])
 
 abbrev pub comment_line : Type 0
 comment_line = HasForm (codes "# w 0 80000004 1")
@@ -269,3 +349,21 @@ text_of_a_mode =
 abbrev pub text_of_a_mode_in_sv48 : Type 0
 text_of_a_mode_in_sv48 =
     IsTold (fault_at 5 (OtherMode 8 Sv48)) (codes "5: MODE of satp is 8: in sv48 it is 0 or 9")
+
+abbrev pub text_of_a_time : Type 0
+text_of_a_time =
+    IsTold (fault_at 1 LogTime)
+    (codes "1: a time of the kernel's log: sed 's/^\\[[^]]*] *//' takes it out")
+
+abbrev pub text_of_a_mark : Type 0
+text_of_a_mark = IsTold (fault_at 1 ByteOrderMark) (codes "1: a byte order mark: a trace has none")
+
+abbrev pub text_of_a_zero : Type 0
+text_of_a_zero =
+    IsTold (fault_at 9 ZeroByte)
+    (codes "9: a byte 0, as of a buffer that was not full: tr -d '\\0' takes it out")
+
+abbrev pub text_of_a_byte : Type 0
+text_of_a_byte =
+    IsTold (fault_at 5 (OtherByte 0x1B))
+    (codes "5: byte 1b: a trace is text, its fields printable ASCII")

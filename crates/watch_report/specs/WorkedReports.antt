@@ -1,5 +1,5 @@
 -- Worked reports: what was worked out by hand of a few lines.
-use Rattle.std.specs.Prelude.{◌≡◌, ℕ, Bool, true, false, codes, List, [], ◌∷◌, ◌++◌, Result, Ok, Err, Some}
+use Rattle.std.specs.Prelude.{◌≡◌, ℕ, Bool, true, false, codes, List, [], ◌∷◌, ◌++◌, Result, Ok, Err, Some, None}
 use Rattle.pte.specs.declared.scheme.Scheme.TheVariants.{Sv39}
 use Rattle.pte.specs.declared.address.PageSize.TheVariants.{Kib4}
 use Rattle.tlb.specs.declared.store.Entry.{Entry}
@@ -11,15 +11,16 @@ use Rattle.watch_report.specs.declared.fault.ReportFault.{ReportFault}
 use Rattle.watch_report.specs.declared.fault.ReportFault.TheVariants.{Line, Output, Unreadable}
 use Rattle.watch_report.specs.declared.line_fault.LineReason.TheVariants.{EmptyStart, NoHart, NoTrace}
 use Rattle.watch_report.specs.Ending.{Ends}
+use Rattle.watch_report.specs.Filters.{no_filter}
 use Rattle.watch_report.specs.LineFaults.{fault_at}
 use Rattle.watch_report.specs.Reports.{Told, end_text, told_of, told_text}
 use Rattle.watch_report.specs.TraceText.{Noted, body_of, records_of}
 use Rattle.watch_report.specs.declared.detail.Detail.{Detail}
 use Rattle.watch_report.specs.declared.detail.Detail.TheVariants.{Causes, Counts, Verdicts}
 
--- a report of the file `a.trace`
+-- a report of the file `a.trace`, of all verdicts
 abbrev pub about : Detail → Told
-about detail = told_of detail (codes "a.trace")
+about detail = told_of detail no_filter (codes "a.trace")
 
 -- of a text this is written, before a report ends so
 unfoldable pub PrintsBy : Detail → List ℕ → List ℕ → Result Bool ReportFault → Type 0
@@ -54,7 +55,7 @@ no_header = Prints (codes "u 0 1000\n") [] (Err (Line 1 (fault_at 1 NoTrace) fal
 
 abbrev pub faulty : Type 0
 faulty =
-    Prints hart_too_great (codes "1 record, no verdict\n") (Err (Line 3 (fault_at 3 (NoHart 2 1)) false))
+    Prints hart_too_great (codes "1 record before line 3, no verdict\n") (Err (Line 3 (fault_at 3 (NoHart 2 1)) false))
 
 -- where the reader, or memory, fails, what was read before is printed, without a last line
 abbrev pub torn : Type 0
@@ -71,11 +72,11 @@ cut_off_at_a_fault = Prints hart_too_great (codes "1 rec") (Err Output)
 -- where there is none, no last line
 abbrev pub other_line : Type 0
 other_line =
-    ¬ Prints hart_too_great (codes "1 record, no verdict\n") (Err (Line 4 (fault_at 3 (NoHart 2 1)) false))
+    ¬ Prints hart_too_great (codes "1 record before line 3, no verdict\n") (Err (Line 4 (fault_at 3 (NoHart 2 1)) false))
 
 abbrev pub other_fault : Type 0
 other_fault =
-    ¬ Prints hart_too_great (codes "1 record, no verdict\n") (Err (Line 3 (fault_at 4 (NoHart 2 1)) false))
+    ¬ Prints hart_too_great (codes "1 record before line 3, no verdict\n") (Err (Line 3 (fault_at 4 (NoHart 2 1)) false))
 
 abbrev pub done_with_a_fault : Type 0
 done_with_a_fault = ¬ Prints hart_too_great (codes "1 record, no verdict\n") (Ok false)
@@ -85,11 +86,16 @@ warned_without_a_verdict = ¬ Prints used_once (codes "1 record, no verdict\n") 
 
 abbrev pub warned_at_a_fault : Type 0
 warned_at_a_fault =
-    ¬ Prints hart_too_great (codes "1 record, no verdict\n") (Err (Line 3 (fault_at 3 (NoHart 2 1)) true))
+    ¬ Prints hart_too_great (codes "1 record before line 3, no verdict\n") (Err (Line 3 (fault_at 3 (NoHart 2 1)) true))
 
 abbrev pub warned_without_a_header : Type 0
 warned_without_a_header =
     ¬ Prints (codes "u 0 1000\n") [] (Err (Line 1 (fault_at 1 NoTrace) true))
+
+-- nor a last line as of a whole trace
+abbrev pub whole_at_a_fault : Type 0
+whole_at_a_fault =
+    ¬ Prints hart_too_great (codes "1 record, no verdict\n") (Err (Line 3 (fault_at 3 (NoHart 2 1)) false))
 
 abbrev pub no_last_line_at_a_fault : Type 0
 no_last_line_at_a_fault = ¬ Prints hart_too_great [] (Err (Line 3 (fault_at 3 (NoHart 2 1)) false))
@@ -149,7 +155,7 @@ given_both = [] ∷ (warning_of Free true ∷ warning_of Free false ∷ []) ∷ 
 abbrev pub Says : Detail → List (List Warning) → List ℕ → List ℕ → Type 0
 Says detail given text last =
     (told_text (about detail) Sv39 records given ≡ text)
-    × (end_text (about detail) Sv39 records given ≡ last)
+    × (end_text (about detail) None Sv39 records given ≡ last)
 
 abbrev pub free_line : List ℕ
 free_line =
@@ -175,11 +181,11 @@ lines_of_verdicts = Says Verdicts given (free_line ++ use_line) last_line
 -- both verdicts are of one finding
 abbrev pub block_of_cause : List ℕ
 block_of_cause =
-    free_line ++ codes "  cause 1: user pages, first free: no flush of the page had begun\n"
+    free_line ++ codes "  cause 1: user pages, first free: no flush of the page has begun since\n"
 
 abbrev pub total_of_cause : List ℕ
 total_of_cause =
-    codes "a.trace:6: cause 1: user pages, first free: no flush of the page had begun; "
+    codes "a.trace:6: cause 1: user pages, first free: no flush of the page has begun since; "
     ++ codes "1 finding: free 1, use 1\n"
 
 abbrev pub lines_of_cause : Type 0
@@ -189,10 +195,10 @@ lines_of_cause = Says Causes given block_of_cause (total_of_cause ++ last_line)
 abbrev pub lines_of_causes : Type 0
 lines_of_causes =
     Says Causes given_both
-    (kernel_line ++ codes "  cause 1: kernel pages, first free: no flush of the page had begun\n"
-    ++ free_line ++ codes "  cause 2: user pages, first free: no flush of the page had begun\n")
-    (codes "a.trace:6: cause 2: user pages, first free: no flush of the page had begun; 1 finding: free 1\n"
-    ++ codes "a.trace:6: cause 1: kernel pages, first free: no flush of the page had begun; 1 finding: free 1\n"
+    (kernel_line ++ codes "  cause 1: kernel pages, first free: no flush of the page has begun since\n"
+    ++ free_line ++ codes "  cause 2: user pages, first free: no flush of the page has begun since\n")
+    (codes "a.trace:6: cause 2: user pages, first free: no flush of the page has begun since; 1 finding: free 1\n"
+    ++ codes "a.trace:6: cause 1: kernel pages, first free: no flush of the page has begun since; 1 finding: free 1\n"
     ++ codes "3 records, 2 verdicts: free 1, kernel-free 1\n")
 
 abbrev pub counts_alone : Type 0

@@ -1,9 +1,9 @@
 //! The lines of causes.
 ghost use Rattle.std.specs.Prelude.{◌≡◌, ◌++◌, IfOk, OnOk, not, position, true};
-ghost use Rattle.watch_report.specs.CauseLines.{block_text, by_test, cause_part, cause_text, comes_before, findings_part, has_reuse, ordered, owner_text, placed, reason_text, tally_counts, total_line};
+ghost use Rattle.watch_report.specs.CauseLines.{block_text, by_test, cause_part, cause_reason_text, cause_text, comes_before, findings_part, has_reuse, ordered, owner_text, placed, spaces_text, tally_counts, total_line};
 ghost use Rattle.watch_report.specs.Warnings.{counted_text, verdict_counts_text};
 
-use crate::counts::{Count, push_counts, word_of};
+use crate::counts::{count_of, push_counts, word_of};
 use crate::push::{push, push_decimal};
 use crate::warning::{Warning, push_place, push_warning, verdict_word};
 use std::alloc::{AllocError, Global};
@@ -22,16 +22,24 @@ fn owner_word(global: bool) -> &'static [u8]
     if global { b"kernel" } else { b"user" }
 }
 
-fn reason_words(reason: Reason) -> &'static [u8]
-    ensures { result.now ≡ reason_text reason }
+fn spaces_words(global: bool) -> &'static [u8]
+    ensures { result.now ≡ spaces_text global }
+{
+    if global {
+        b"its flush fenced by ASID, which leaves global pages"
+    } else {
+        b"its flush fenced another ASID"
+    }
+}
+
+fn reason_words(global: bool, reason: Reason) -> &'static [u8]
+    ensures { result.now ≡ cause_reason_text global reason }
 {
     match reason {
-        Reason::NoFlush => b"no flush of the page had begun",
+        Reason::NoFlush => b"no flush of the page has begun since",
         Reason::NoFence => b"its flush asked for no fence",
         Reason::OtherHarts => b"its flush asked for no fence on this hart",
-        Reason::OtherSpaces => {
-            b"its flush fenced another ASID, or some ASID while the page is global"
-        }
+        Reason::OtherSpaces => spaces_words(global),
         Reason::OtherPages => b"its flush fenced other pages",
         Reason::NotDone => b"its flush asked for a fence that was not done yet",
     }
@@ -45,7 +53,7 @@ fn push_cause(text: &mut Vec<u8>, cause: &Cause) -> Result<(), AllocError>
     push(text, b" pages, first ")?;
     push(text, verdict_word(cause.first))?;
     push(text, b": ")?;
-    push(text, reason_words(cause.reason))
+    push(text, reason_words(cause.global, cause.reason))
 }
 
 /// Adds the number of the cause, and the cause.
@@ -84,22 +92,10 @@ fn push_verdicts(text: &mut Vec<u8>, verdicts: &Verdicts) -> Result<(), AllocErr
         ++ verdict_counts_text true (tally_counts verdicts.now)) }
 {
     let counts = [
-        Count {
-            name: b"free",
-            number: verdicts.free,
-        },
-        Count {
-            name: b"reuse",
-            number: verdicts.reuse,
-        },
-        Count {
-            name: b"claim",
-            number: verdicts.claimed,
-        },
-        Count {
-            name: b"use",
-            number: verdicts.used,
-        },
+        count_of(b"free", verdicts.free),
+        count_of(b"reuse", verdicts.reuse),
+        count_of(b"claim", verdicts.claimed),
+        count_of(b"use", verdicts.used),
     ];
     push_counts(text, &counts)
 }

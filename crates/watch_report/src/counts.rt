@@ -1,6 +1,7 @@
 //! The last line, with the counts of the verdicts.
-ghost use Rattle.std.specs.Prelude.{◌≡◌, ◌==◌, ◌++◌, ◌&&◌, OnOk, if◌then◌else◌, map, true};
-ghost use Rattle.watch_report.specs.Warnings.{all_counts, comma_text, count_text, verdict_counts_text, summary_line, printed_count, sum_of, total_text};
+ghost use Rattle.std.specs.Fmt.{decimal};
+ghost use Rattle.std.specs.Prelude.{◌≡◌, ◌==◌, ◌++◌, ◌&&◌, OnOk, codes, if◌then◌else◌, map, true};
+ghost use Rattle.watch_report.specs.Warnings.{all_counts, comma_text, count_text, verdict_counts_text, summary_line, printed_count, sum_of, total_text, wrong_text};
 
 use crate::push::{push, push_decimal, push_wide_decimal};
 use std::alloc::AllocError;
@@ -19,6 +20,13 @@ pub struct VerdictCounts {
 pub struct Count {
     pub name: &'static [u8],
     pub number: u64,
+}
+
+/// How often the verdict of this name was given.
+pub fn count_of(name: &'static [u8], number: u64) -> Count
+    ensures { printed_count result ≡ (name.now, number) }
+{
+    Count { name, number }
 }
 
 fn push_comma(text: &mut Vec<u8>, is_first: bool) -> Result<(), AllocError>
@@ -71,38 +79,14 @@ fn push_all_counts(
         ++ verdict_counts_text true (all_counts user.now kernel.now)) }
 {
     let counts = [
-        Count {
-            name: b"free",
-            number: user.free,
-        },
-        Count {
-            name: b"reuse",
-            number: user.reuse,
-        },
-        Count {
-            name: b"claim",
-            number: user.claimed,
-        },
-        Count {
-            name: b"use",
-            number: user.used,
-        },
-        Count {
-            name: b"kernel-free",
-            number: kernel.free,
-        },
-        Count {
-            name: b"kernel-reuse",
-            number: kernel.reuse,
-        },
-        Count {
-            name: b"kernel-claim",
-            number: kernel.claimed,
-        },
-        Count {
-            name: b"kernel-use",
-            number: kernel.used,
-        },
+        count_of(b"free", user.free),
+        count_of(b"reuse", user.reuse),
+        count_of(b"claim", user.claimed),
+        count_of(b"use", user.used),
+        count_of(b"kernel-free", kernel.free),
+        count_of(b"kernel-reuse", kernel.reuse),
+        count_of(b"kernel-claim", kernel.claimed),
+        count_of(b"kernel-use", kernel.used),
     ];
     push_counts(text, &counts)
 }
@@ -126,7 +110,8 @@ pub fn word_of(is_one: bool, one: &'static [u8], more: &'static [u8]) -> &'stati
     if is_one { one } else { more }
 }
 
-fn push_total(
+/// Adds how many verdicts there were, and how many of each kind.
+fn push_verdict_total(
     text: &mut Vec<u8>,
     user: &VerdictCounts,
     kernel: &VerdictCounts,
@@ -144,20 +129,41 @@ fn push_total(
     }
 }
 
-/// Adds the last line: how many records there were, and how many verdicts of each kind on
-/// translations of users and on the kernel's, global ones. `AllocError`: there was no room; the
-/// part of the line that had room stays.
+fn push_line(text: &mut Vec<u8>, line: u64) -> Result<(), AllocError>
+    ensures ok { OnOk result (text.new.items ≡ text.old.items
+        ++ codes " before line " ++ decimal line) }
+{
+    push(text, b" before line ")?;
+    push_decimal(text, line)
+}
+
+/// Adds the number of the line that is wrong, if one is.
+fn push_wrong(text: &mut Vec<u8>, wrong: Option<u64>) -> Result<(), AllocError>
+    ensures ok { OnOk result (text.new.items ≡ text.old.items ++ wrong_text wrong) }
+{
+    match wrong {
+        None => Ok(()),
+        Some(line) => push_line(text, line),
+    }
+}
+
+/// Adds the last line: how many records there were, before which line of the trace if that is wrong,
+/// and how many verdicts of each kind on translations of users and on the kernel's, global ones.
+/// `AllocError`: there was no room; the part of the line that had room stays.
 pub fn push_summary(
     text: &mut Vec<u8>,
     records: u64,
+    wrong: Option<u64>,
     user: &VerdictCounts,
     kernel: &VerdictCounts,
 ) -> Result<(), AllocError>
     ensures ok { OnOk result (text.new.items ≡ text.old.items
-        ++ summary_line records user.now kernel.now) }
+        ++ summary_line records wrong user.now kernel.now) }
 {
     push_decimal(text, records)?;
-    push(text, word_of(records == 1, b" record, ", b" records, "))?;
-    push_total(text, user, kernel)?;
+    push(text, word_of(records == 1, b" record", b" records"))?;
+    push_wrong(text, wrong)?;
+    push(text, b", ")?;
+    push_verdict_total(text, user, kernel)?;
     push(text, b"\n")
 }

@@ -1,6 +1,6 @@
-//! What a report tells of.
+//! How much a report tells.
 
-/// What a report tells of, before its last line.
+/// What a report tells of the verdicts that its filter takes, before its last line.
 #[derive(Clone, Copy, PartialEq, Eq, Debug)]
 pub enum Detail {
     /// Each verdict, by a line, as soon as its record is read.

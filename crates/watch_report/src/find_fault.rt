@@ -9,7 +9,7 @@ use crate::header::Header;
 use crate::line::{note_start, split_note};
 use crate::line_fault::{LineFault, LineReason};
 use crate::line_form::{Field, LineForm, fields_of_form, form_of};
-use crate::word_faults::{fault_at, word_fault, wrong_word};
+use crate::word_faults::{fault_at, first_reason, word_fault, wrong_word};
 use pte::Scheme;
 
 /// The first word of a text, and what stands after its space, if there is one.
@@ -83,7 +83,8 @@ fn record_fault(machine: Header, text: &[u8]) -> Option<LineFault>
 {
     let (letter, rest) = first_word(text);
     let Some(form) = form_of(letter) else {
-        return Some(wrong_word(0, letter, LineReason::OtherLetter));
+        let reason = first_reason(LineReason::OtherLetter, letter);
+        return Some(wrong_word(0, letter, reason));
     };
     let fields = fields_of_form(form);
     let past = letter.len() + 1;

@@ -1,13 +1,16 @@
 //! Laws of lines and reports: each call makes no step, and its clauses hold of the definitions alone.
 ghost use Rattle.std.specs.Prelude.{◌≡◌, ◌<◌, ◌≤◌, ◌++◌, List, [], ℕ, Some, None, is_none, is_some};
 ghost use Rattle.std.specs.List.{Contains};
+ghost use Rattle.std.specs.List.Sorted.{IsPermutation, IsStableBy};
 ghost use Rattle.pte.specs.declared.scheme.Scheme.{Scheme};
 ghost use Rattle.watch.specs.declared.trace.Record.{Record};
 ghost use Rattle.watch.specs.Trace.{hart_of};
+ghost use Rattle.watch_causes.specs.declared.tally.Tally.{Tally};
 ghost use Rattle.watch_engine.specs.declared.warning.Warning.{Warning};
 ghost use Rattle.watch_engine.specs.Warnings.{AreWarnings};
 ghost use Rattle.watch_report.specs.declared.header.Header.{Header};
 ghost use Rattle.watch_report.specs.declared.warning.Trigger.{Trigger};
+ghost use Rattle.watch_report.specs.CauseLines.{AreInOrder, comes_before, numbered_from, ordered};
 ghost use Rattle.watch_report.specs.ReadBack.{HasLine};
 ghost use Rattle.watch_report.specs.RecordLines.{note_text, record_text};
 ghost use Rattle.watch_report.specs.Fields.{fields_of};
@@ -50,4 +53,14 @@ pub fn each_warning_is_printed()
         → AreWarnings scheme newest (trace_of records) warnings
         → trigger_of records newest ≡ Some trigger → Contains warnings w
         → w.verdict ≡ verdict_of trigger }
+{}
+
+/// At the end stands each cause that began, once, with its number. None comes before one that stands
+/// in front of it, and those of which none comes before another stand as they began.
+pub fn causes_stand_in_order()
+    ensures each { (tallies : List Tally)
+        → IsPermutation (numbered_from 1 tallies) (ordered tallies) }
+    ensures order { (tallies : List Tally) → AreInOrder (ordered tallies) }
+    ensures alike { (tallies : List Tally)
+        → IsStableBy comes_before (numbered_from 1 tallies) (ordered tallies) }
 {}

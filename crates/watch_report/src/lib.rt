@@ -2,8 +2,9 @@
 //! reader to any writer.
 //!
 //! `report_trace` reads the lines of a trace, and writes a line for each verdict or a block for each
-//! cause as soon as its record is read, and a last line with counts. Of what was read it keeps what the
-//! watch keeps, the notes, the lines of records, and, where they are told, the causes.
+//! cause as soon as its record is read, and a last line with counts, all of the verdicts that a
+//! filter takes. Of what was read it keeps what the watch keeps, the notes, the lines of records, and,
+//! where they are told, the causes.
 #![tactic(auto)]
 
 mod blocks;
@@ -15,6 +16,8 @@ mod detail;
 mod emit;
 mod fault;
 mod fields;
+mod filter;
+mod filter_laws;
 mod find_fault;
 mod header;
 mod input;
@@ -42,6 +45,7 @@ mod warning;
 mod word_faults;
 mod worked_cause_lines;
 mod worked_faults;
+mod worked_filters;
 mod worked_lines;
 mod worked_reports;
 
@@ -50,11 +54,15 @@ pub use counts::{VerdictCounts, push_summary};
 pub use detail::Detail;
 pub use emit::push_record;
 pub use fault::ReportFault;
+pub use filter::{Filter, Kind, read_filter};
+pub use filter_laws::{
+    kind_is_the_word_of_a_line, open_filter_takes_all, told_verdicts_are_those_taken,
+};
 pub use find_fault::{find_header_fault, find_line_fault};
 pub use header::{Header, read_header};
 pub use laws::{
-    each_warning_is_printed, line_has_a_fault_or_a_form, printed_record_is_read,
-    record_stands_on_its_line,
+    causes_stand_in_order, each_warning_is_printed, line_has_a_fault_or_a_form,
+    printed_record_is_read, record_stands_on_its_line,
 };
 pub use line::{Line, read_line};
 pub use line_fault::{LineFault, LineReason};
@@ -64,7 +72,11 @@ pub use retry::{read_retrying, write_retrying};
 pub use warning::{Trigger, Warning, push_warning};
 pub use worked_cause_lines::{worked_causes, worked_orders, worked_totals};
 pub use worked_faults::{
-    worked_fault_texts, worked_formed_lines, worked_header_faults, worked_line_faults,
+    worked_byte_faults, worked_fault_texts, worked_formed_lines, worked_header_faults,
+    worked_line_faults,
+};
+pub use worked_filters::{
+    refused_words, worked_filtered_causes, worked_filtered_lines, worked_statuses, worked_words,
 };
 pub use worked_lines::{
     worked_headers, worked_readings, worked_records, worked_refusals, worked_summaries,

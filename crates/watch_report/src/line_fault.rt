@@ -21,18 +21,24 @@ pub enum LineReason {
     EmptyStart,
     /// The first word of the first line is not `watch`.
     NoTrace,
+    /// A time as the log of a kernel puts it before a line.
+    LogTime,
     /// The version is not 1.
     OtherVersion,
     /// HARTS is not from 1 to 64.
     OtherHarts(u64),
     /// The scheme is neither `sv39` nor `sv48`.
     OtherScheme,
-    /// A byte order mark stands before `watch`.
+    /// A word has a byte order mark in it.
     ByteOrderMark,
-    /// A word ends in a carriage return.
+    /// A word has a byte 0 in it.
+    ZeroByte,
+    /// A word has a carriage return in it.
     CarriageReturn,
     /// A word has a tab in it.
     Tab,
+    /// A word has another byte in it that is not printable ASCII.
+    OtherByte(u8),
     /// A space stands where no field ends, or none begins.
     Space,
     /// No record has this letter.
@@ -68,7 +74,9 @@ const EMPTY_START: &str = "the first line is empty: a trace begins with watch 1 
 const NO_TRACE: &str =
     "no trace, which begins with watch 1 HARTS SCHEME (a scenario is for svsim run)";
 
-const BYTE_ORDER_MARK: &str = "a byte order mark: a trace begins with watch 1 HARTS SCHEME";
+const LOG_TIME: &str = "a time of the kernel's log: sed 's/^\\[[^]]*] *//' takes it out";
+
+const ZERO_BYTE: &str = "a byte 0, as of a buffer that was not full: tr -d '\\0' takes it out";
 
 const CARRIAGE_RETURN: &str = "a carriage return: lines end in a line feed alone";
 
@@ -99,20 +107,29 @@ impl fmt::Display for Word {
 
 impl fmt::Display for LineReason {
     ghost use Rattle.std.specs.Prelude.{Some};
-    ghost use Rattle.watch_report.specs.ReasonTexts.{reason_text};
+    ghost use Rattle.watch_report.specs.ReasonTexts.{line_reason_text};
 
-    ghost output = { λ reason. Some (reason_text reason) };
+    ghost output = { λ reason. Some (line_reason_text reason) };
 
     fn fmt<W: fmt::Write>(&self, f: &mut fmt::Formatter<W>) -> fmt::Result {
         match self {
             LineReason::EmptyStart => f.write_str(EMPTY_START),
             LineReason::NoTrace => f.write_str(NO_TRACE),
+            LineReason::LogTime => f.write_str(LOG_TIME),
             LineReason::OtherVersion => f.write_str("another version: only 1 is known"),
             LineReason::OtherHarts(harts) => write!(f, "HARTS is {harts}, not 1 to 64"),
             LineReason::OtherScheme => f.write_str("SCHEME is neither sv39 nor sv48"),
-            LineReason::ByteOrderMark => f.write_str(BYTE_ORDER_MARK),
+            LineReason::ByteOrderMark => f.write_str("a byte order mark: a trace has none"),
+            LineReason::ZeroByte => f.write_str(ZERO_BYTE),
             LineReason::CarriageReturn => f.write_str(CARRIAGE_RETURN),
             LineReason::Tab => f.write_str(TAB),
+            LineReason::OtherByte(byte) => {
+                let byte = Word(u64::from(*byte));
+                write!(
+                    f,
+                    "byte {byte}: a trace is text, its fields printable ASCII"
+                )
+            }
             LineReason::Space => f.write_str(SPACE),
             LineReason::OtherLetter => f.write_str(OTHER_LETTER),
             LineReason::Missing { form, field } => write!(f, "{field} is missing: {form}"),

@@ -1,7 +1,7 @@
 //! The lines that records stand on, for the lines of later verdicts.
-ghost use Rattle.std.specs.Prelude.{◌≡◌, ◌≤◌, ◌+◌, ◌∷◌, List, [], OnErr, OnOk, length};
+ghost use Rattle.std.specs.Prelude.{ℕ, ◌≡◌, ◌≤◌, ◌+◌, ◌∷◌, List, [], OnErr, OnOk, length};
 ghost use Rattle.std.specs.List.Sorted.{IsNonDecreasingBy, IsPartitionPoint};
-ghost use Rattle.watch_report.specs.LineNumbers.{AreLines, behind, EndsBefore, line_from};
+ghost use Rattle.watch_report.specs.LineNumbers.{AreLines, AreRuns, behind, EndsBefore, line_from};
 ghost use Rattle.watch_report.specs.TraceText.{Noted, line_at};
 ghost use Rattle.watch_report.specs.declared.lines.Run.{Run as RunOf};
 
@@ -20,6 +20,8 @@ pub(crate) struct Run {
 #[derive(Drop)]
 pub(crate) struct Lines {
     count: u64,
+    // the line right behind the last run, if there is one
+    next: u64,
     runs: Vec<Run>,
 }
 
@@ -53,6 +55,27 @@ fn line_behind(runs: &[Run], place: usize, number: u64) -> u64
     runs[place - 1].line_of(number)
 }
 
+/// Begins a run at a record, unless it stands right behind the last one.
+#[inline(never)]
+fn add_run(runs: &mut Vec<Run>, number: u64, line: u64) -> Result<(), AllocError>
+    ensures ok { (records : List Noted) (count : ℕ) (newest : Noted)
+        → AreRuns records count runs.old.items → number ≡ count + 1 → newest.line ≡ line
+        → OnOk result (AreRuns (newest ∷ records) number runs.new.items) }
+    ensures same_run { (d : RunOf) → line ≡ behind d runs.old.items
+        (length runs.old.items) number → runs.new.items ≡ runs.old.items }
+    ensures err { OnErr result (runs.new.items ≡ runs.old.items) }
+{
+    let last = runs.as_slice();
+    if line_behind(last, last.len(), number) == line {
+        return Ok(());
+    }
+    runs.push(Run {
+        first: number,
+        line,
+    })?;
+    Ok(())
+}
+
 impl Lines {
     /// No record was read.
     pub(crate) fn new(alloc: Global) -> Lines
@@ -60,11 +83,13 @@ impl Lines {
     {
         Lines {
             count: 0,
+            next: 0,
             runs: Vec::new(alloc),
         }
     }
 
     /// With the line of the next record: one right behind the last run begins no other.
+    #[inline(always)]
     pub(crate) fn add(&mut self, line: u64) -> Result<(), AllocError>
         ensures ok { (records : List Noted) (newest : Noted) → AreLines records self.old
             → newest.line ≡ line → OnOk result (AreLines (newest ∷ records) self.new) }
@@ -77,16 +102,14 @@ impl Lines {
         let Some(number) = self.count.checked_add(1) else {
             return Err(AllocError);
         };
-        let runs = self.runs.as_slice();
-        if line_behind(runs, runs.len(), number) == line {
+        if line == self.next && !self.runs.is_empty() {
             self.count = number;
+            self.next = line.wrapping_add(1);
             return Ok(());
         }
-        self.runs.push(Run {
-            first: number,
-            line,
-        })?;
+        add_run(&mut self.runs, number, line)?;
         self.count = number;
+        self.next = line.wrapping_add(1);
         Ok(())
     }
 

@@ -2,7 +2,7 @@
 
 use watch::Record;
 
-/// The next record, with its note and the number of its line.
+/// The newest record, which is being read, with its note and the number of its line.
 #[derive(Clone, Copy)]
 pub(crate) struct Newest<'a> {
     pub made: Record,

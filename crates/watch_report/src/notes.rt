@@ -124,6 +124,7 @@ impl Notes {
     }
 
     /// With the note of the next record, which is empty if it has none.
+    #[inline(always)]
     pub fn add(&mut self, note: &[u8]) -> Result<(), AllocError>
         ensures ok { (records : List Noted) (newest : Noted) → AreNotes records self.old
             → newest.by ≡ note.now → OnOk result (AreNotes (newest ∷ records) self.new) }

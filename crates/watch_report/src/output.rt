@@ -9,6 +9,7 @@ use std::io::Write;
 
 /// Writes all of the bytes. A write that fails, or writes no bytes, ends it at once; one that a signal
 /// interrupts is tried again (`write_retrying`).
+#[inline(always)]
 pub fn write_whole<W: Write>(out: &mut W, bytes: &[u8]) -> Result<(), ReadingFault>
     ensures ok { OnOk result (Appends (W.contents out.old) (W.contents out.new) bytes.now) }
     ensures err { OnErr result (AppendsFront (W.contents out.old) (W.contents out.new) bytes.now) }

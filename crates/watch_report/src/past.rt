@@ -26,6 +26,7 @@ impl Past {
     }
 
     /// With the note and the line of the next record.
+    #[inline(always)]
     pub(crate) fn add(&mut self, note: &[u8], line: u64) -> Result<(), AllocError>
         ensures { (records : List Noted) (newest : Noted) → ArePast records self.old
             → newest.by ≡ note.now → newest.line ≡ line

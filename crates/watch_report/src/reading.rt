@@ -1,8 +1,11 @@
 //! A trace that is being read.
 ghost use Rattle.std.specs.Prelude.{◌≡◌, ◌∷◌, ℕ, List, [], Option, IfErr, IfOk, OnOk, not};
+ghost use Rattle.watch_engine.specs.declared.warning.Warning.{Warning as WarningOf};
 ghost use Rattle.watch_report.specs.declared.detail.Detail.{Detail as DetailOf};
+ghost use Rattle.watch_report.specs.declared.filter.Filter.{Filter as FilterOf};
+ghost use Rattle.watch_report.specs.declared.reading_fault.ReadingFault.TheVariants.{NoMemory};
 ghost use Rattle.watch_report.specs.Output.{WritesAll};
-ghost use Rattle.watch_report.specs.Reading.{FailsAtEnd, FailsAtLine, FailsAtRecord, HasSeen, Stands};
+ghost use Rattle.watch_report.specs.Reading.{FailsAtEnd, FailsAtLine, FailsAtRecord, HasSeen, Stands, TellsMore};
 ghost use Rattle.watch_report.specs.Reports.{told_of, WholeText};
 ghost use Rattle.watch_report.specs.TraceLines.{line_in};
 ghost use Rattle.watch_report.specs.TraceText.{has_no_form, Noted, with_record};
@@ -11,6 +14,7 @@ ghost use Rattle.watch_report.specs.VerdictLines.{noted_by};
 use crate::counting::{count_warnings, has_verdicts, one_more};
 use crate::counts::{VerdictCounts, push_summary};
 use crate::detail::Detail;
+use crate::filter::Filter;
 use crate::header::Header;
 use crate::line::{Line, read_line};
 use crate::newest::Newest;
@@ -28,6 +32,7 @@ use watch_tables::PageTables;
 #[derive(Drop)]
 pub struct Reading {
     alloc: Global,
+    filter: Filter,
     header: Header,
     watch: Watch<PageTables>,
     records: u64,
@@ -39,12 +44,13 @@ pub struct Reading {
 
 impl Reading {
     /// No line was read but the header.
-    pub fn new(alloc: Global, detail: Detail, header: Header) -> Reading
+    pub fn new(alloc: Global, detail: Detail, filter: Filter, header: Header) -> Reading
         ensures header { result.header ≡ header }
-        ensures seen { HasSeen detail [] [] result }
+        ensures seen { HasSeen detail filter [] [] result }
     {
         Reading {
             alloc,
+            filter,
             header,
             watch: Watch::new(alloc, header.scheme, PageTables::new(alloc)),
             records: 0,
@@ -55,26 +61,20 @@ impl Reading {
         }
     }
 
-    /// Takes the next record, and writes what is told of it.
-    fn take_record<W: Write>(
-        &mut self,
-        file: &[u8],
-        newest: &Newest<'_>,
-        out: &mut W,
-    ) -> Result<(), ReadingFault>
+    /// Takes the next record, and answers what is told of it.
+    #[inline(always)]
+    fn judge(&mut self, file: &[u8], newest: &Newest<'_>) -> Result<Vec<u8>, ReadingFault>
         ensures header { self.new.header ≡ self.old.header }
-        ensures ok { (detail : DetailOf) (start : Option (List ℕ)) (records : List Noted)
-            → Stands (told_of detail file.now) start (W.contents out.old) records self.old
-            → OnOk result (Stands (told_of detail file.now) start (W.contents out.new)
-            (noted_by newest.now ∷ records) self.new) }
-        ensures err { (detail : DetailOf) (start : Option (List ℕ)) (records : List Noted)
-            → Stands (told_of detail file.now) start (W.contents out.old) records self.old
-            → IfErr result (λ fault. FailsAtRecord fault (told_of detail file.now)
-            self.old.header.scheme (noted_by newest.now) records start (W.contents out.new)) }
+        ensures ok { (detail : DetailOf) (filter : FilterOf) (records : List Noted)
+            (given : List (List WarningOf)) → HasSeen detail filter records given self.old
+            → IfOk result (λ text. TellsMore detail filter file.now (noted_by newest.now) records given
+            text.items self.new) }
+        ensures err { IfErr result (λ fault. fault ≡ NoMemory) }
     {
         let trigger = trigger_of(&self.watch, &self.past, newest.made);
         let number = one_more(self.records)?;
-        let warnings = self.watch.record(newest.made)?;
+        let mut warnings = self.watch.record(newest.made)?;
+        self.filter.retain(&mut warnings);
         self.records = number;
         count_warnings(&mut self.user, &mut self.kernel, warnings.as_slice())?;
         let text = self.telling.at_record(
@@ -86,6 +86,29 @@ impl Reading {
             warnings.as_slice(),
         )?;
         self.past.add(newest.by, newest.line)?;
+        Ok(text)
+    }
+
+    /// Takes the next record, and writes what is told of it.
+    fn take_record<W: Write>(
+        &mut self,
+        file: &[u8],
+        newest: &Newest<'_>,
+        out: &mut W,
+    ) -> Result<(), ReadingFault>
+        ensures header { self.new.header ≡ self.old.header }
+        ensures ok { (detail : DetailOf) (filter : FilterOf) (start : Option (List ℕ))
+            (records : List Noted)
+            → Stands (told_of detail filter file.now) start (W.contents out.old) records self.old
+            → OnOk result (Stands (told_of detail filter file.now) start (W.contents out.new)
+            (noted_by newest.now ∷ records) self.new) }
+        ensures err { (detail : DetailOf) (filter : FilterOf) (start : Option (List ℕ))
+            (records : List Noted)
+            → Stands (told_of detail filter file.now) start (W.contents out.old) records self.old
+            → IfErr result (λ fault. FailsAtRecord fault (told_of detail filter file.now)
+            self.old.header.scheme (noted_by newest.now) records start (W.contents out.new)) }
+    {
+        let text = self.judge(file, newest)?;
         write_whole(out, text.as_slice())
     }
 
@@ -100,13 +123,15 @@ impl Reading {
     ) -> Result<bool, ReadingFault>
         ensures header { self.new.header ≡ self.old.header }
         ensures form { IfOk result (λ taken. has_no_form self.old.header line.now ≡ not taken) }
-        ensures ok { (detail : DetailOf) (start : Option (List ℕ)) (records : List Noted)
-            → Stands (told_of detail file.now) start (W.contents out.old) records self.old
-            → OnOk result (Stands (told_of detail file.now) start (W.contents out.new)
+        ensures ok { (detail : DetailOf) (filter : FilterOf) (start : Option (List ℕ))
+            (records : List Noted)
+            → Stands (told_of detail filter file.now) start (W.contents out.old) records self.old
+            → OnOk result (Stands (told_of detail filter file.now) start (W.contents out.new)
             (with_record (line_in self.old.header line.now) number records) self.new) }
-        ensures err { (detail : DetailOf) (start : Option (List ℕ)) (records : List Noted)
-            → Stands (told_of detail file.now) start (W.contents out.old) records self.old
-            → IfErr result (λ fault. FailsAtLine fault (told_of detail file.now) self.old.header
+        ensures err { (detail : DetailOf) (filter : FilterOf) (start : Option (List ℕ))
+            (records : List Noted)
+            → Stands (told_of detail filter file.now) start (W.contents out.old) records self.old
+            → IfErr result (λ fault. FailsAtLine fault (told_of detail filter file.now) self.old.header
             number line.now records start (W.contents out.new)) }
     {
         match read_line(self.header, line) {
@@ -128,21 +153,28 @@ impl Reading {
         }
     }
 
-    /// Writes the last lines. Whether there was a verdict.
-    pub fn finish<W: Write>(&self, file: &[u8], out: &mut W) -> Result<bool, ReadingFault>
-        ensures ok { (detail : DetailOf) (start : Option (List ℕ)) (records : List Noted)
-            → Stands (told_of detail file.now) start (W.contents out.old) records self.now
-            → IfOk result (λ some. WritesAll (WholeText (told_of detail file.now)
+    /// Writes the last lines, where the line of a number may be wrong. Whether there was a verdict.
+    pub fn finish<W: Write>(
+        &self,
+        file: &[u8],
+        wrong: Option<u64>,
+        out: &mut W,
+    ) -> Result<bool, ReadingFault>
+        ensures ok { (detail : DetailOf) (filter : FilterOf) (start : Option (List ℕ))
+            (records : List Noted)
+            → Stands (told_of detail filter file.now) start (W.contents out.old) records self.now
+            → IfOk result (λ some. WritesAll (WholeText (told_of detail filter file.now) wrong
             self.now.header.scheme records some) start (W.contents out.new)) }
-        ensures err { (detail : DetailOf) (start : Option (List ℕ)) (records : List Noted)
-            → Stands (told_of detail file.now) start (W.contents out.old) records self.now
-            → IfErr result (λ fault. FailsAtEnd fault (told_of detail file.now)
+        ensures err { (detail : DetailOf) (filter : FilterOf) (start : Option (List ℕ))
+            (records : List Noted)
+            → Stands (told_of detail filter file.now) start (W.contents out.old) records self.now
+            → IfErr result (λ fault. FailsAtEnd fault (told_of detail filter file.now) wrong
             self.now.header.scheme records start (W.contents out.new)) }
     {
         let mut text = Vec::new(self.alloc);
         self.telling
             .push_end(self.alloc, &mut text, file, &self.past)?;
-        push_summary(&mut text, self.records, &self.user, &self.kernel)?;
+        push_summary(&mut text, self.records, wrong, &self.user, &self.kernel)?;
         match write_whole(out, text.as_slice()) {
             Ok(()) => Ok(has_verdicts(self.user, self.kernel)),
             Err(fault) => Err(fault),

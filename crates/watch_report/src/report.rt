@@ -9,6 +9,7 @@ ghost use Rattle.watch_report.specs.TraceText.{has_no_form, lines_of};
 
 use crate::detail::Detail;
 use crate::fault::ReportFault;
+use crate::filter::Filter;
 use crate::find_fault::{find_header_fault, find_line_fault};
 use crate::header::{Header, read_header};
 use crate::input::read_line;
@@ -51,6 +52,7 @@ fn fault_of_line(header: Header, number: u64, line: &[u8], warned: bool) -> Repo
 fn report_lines<R: BufRead, W: Write>(
     alloc: Global,
     detail: Detail,
+    filter: Filter,
     file: &[u8],
     header: Header,
     input: &mut R,
@@ -58,20 +60,20 @@ fn report_lines<R: BufRead, W: Write>(
     out: &mut W,
 ) -> Result<bool, ReportFault>
     ensures { (text : List ℕ) × IfSome (R.remaining input.old) (λ left. text ≡ left)
-        × EndsBy (told_of detail file.now) (Ok header) (lines_of text) result
+        × EndsBy (told_of detail filter file.now) (Ok header) (lines_of text) result
         (W.contents out.old) (W.contents out.new) }
 {
-    let mut reading = Reading::new(alloc, detail, header);
+    let mut reading = Reading::new(alloc, detail, filter, header);
     for number in 2..u64::MAX {
         let more = read_line(input, line)?;
         let text = line.as_slice();
         let taken = reading.take_line(file, number, text, out)?;
         if !taken {
-            let warned = reading.finish(file, out)?;
+            let warned = reading.finish(file, Some(number), out)?;
             return Err(fault_of_line(header, number, text, warned));
         }
         if !more {
-            let some = reading.finish(file, out)?;
+            let some = reading.finish(file, None, out)?;
             return Ok(some);
         }
     }
@@ -82,12 +84,13 @@ fn report_lines<R: BufRead, W: Write>(
 fn report_all<R: BufRead, W: Write>(
     alloc: Global,
     detail: Detail,
+    filter: Filter,
     file: &[u8],
     input: &mut R,
     out: &mut W,
 ) -> Result<bool, ReportFault>
     ensures { (text : List ℕ) × IfSome (R.remaining input.old) (λ left. text ≡ left)
-        × Ends (told_of detail file.now) text result (W.contents out.old) (W.contents out.new) }
+        × Ends (told_of detail filter file.now) text result (W.contents out.old) (W.contents out.new) }
 {
     let mut line = Vec::new(alloc);
     let more = read_line(input, &mut line)?;
@@ -96,14 +99,17 @@ fn report_all<R: BufRead, W: Write>(
         return Err(first_line_fault(text));
     };
     if !more {
-        let some = Reading::new(alloc, detail, header).finish(file, out)?;
+        let some = Reading::new(alloc, detail, filter, header).finish(file, None, out)?;
         return Ok(some);
     }
-    report_lines(alloc, detail, file, header, input, &mut line, out)
+    report_lines(alloc, detail, filter, file, header, input, &mut line, out)
 }
 
 /// Reads a trace to its end, from the file of this name. Writes what the detail asks for as soon as a
 /// record is read, and the last lines. Whether there was a verdict.
+///
+/// Of verdicts that the filter does not take nothing is told, and they count for nothing. So the first
+/// verdict of a finding is the first that the filter takes, and its cause has the word of that one.
 ///
 /// What was written before a fault stays. At `Line` it is all that of the records before the line, with
 /// the last lines, or nothing if it is the first. At the others it is what is told of some of the
@@ -111,15 +117,16 @@ fn report_all<R: BufRead, W: Write>(
 pub fn report_trace<R: Read + Drop, W: Write>(
     alloc: Global,
     detail: Detail,
+    filter: Filter,
     file: &str,
     input: R,
     out: &mut W,
 ) -> Result<bool, ReportFault>
     ensures { (text : List ℕ) × IfSome (R.remaining input) (λ left. text ≡ left)
-        × Ends (told_of detail file.now) text result (W.contents out.old) (W.contents out.new) }
+        × Ends (told_of detail filter file.now) text result (W.contents out.old) (W.contents out.new) }
 {
     let Ok(mut reader) = BufReader::new(alloc, Retrying { inner: input }) else {
         return Err(ReportFault::NoMemory);
     };
-    report_all(alloc, detail, file.as_bytes(), &mut reader, out)
+    report_all(alloc, detail, filter, file.as_bytes(), &mut reader, out)
 }

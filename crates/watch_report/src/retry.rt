@@ -30,6 +30,7 @@ pub fn read_retrying<R: Read>(input: &mut R, buffer: &mut [u8]) -> io::Result<us
 }
 
 /// One write. While a signal interrupts it, it is tried up to 65,536 times.
+#[inline(never)]
 pub fn write_retrying<W: Write>(out: &mut W, bytes: &[u8]) -> io::Result<usize>
     ensures bound { WritesAtMost result bytes.now }
     ensures bytes { WriteAppends (W.contents out.old) (W.contents out.new) result bytes.now }

@@ -2,10 +2,9 @@
 ghost use Rattle.std.specs.Prelude.{◌≡◌, ◌+◌, ◌<◌, ◌≤◌, ◌^◌, None, nat_lt, length};
 ghost use Rattle.std.specs.Char.{digit_value};
 ghost use Rattle.std.specs.List.{list_all};
-ghost use Rattle.watch_report.specs.LineFaults.{fault_at, first_tab, hexadecimal_reason, kind_reason, name_reason, number_reason, optional_reason, unless, word_fault, word_reason, wrong_word};
+ghost use Rattle.watch_report.specs.LineFaults.{begins_time, byte_reason, bytes_reason, fault_at, first_reason, first_wrong, hexadecimal_reason, is_printable, kind_reason, number_reason, optional_reason, unless, word_fault, word_reason, wrong_word};
 ghost use Rattle.watch_report.specs.declared.line_form.FieldKind.TheVariants.{Asid, Hart, HartCount, Number, Optional, Satp, WordAddress};
 
-use crate::bytes::first_of;
 use crate::header::{Header, scheme};
 use crate::line_fault::{LineFault, LineReason};
 use crate::line_form::{Field, FieldKind, kind_of};
@@ -44,14 +43,25 @@ fn number_reason(radix: u64, other: LineReason, word: &[u8]) -> LineReason
     }
 }
 
-/// Why the first word is not `watch`.
-fn name_reason(word: &[u8]) -> LineReason
-    ensures { result ≡ name_reason word.now }
+/// Whether a time begins so that the log of a kernel puts before a line.
+fn begins_time(word: &[u8]) -> bool
+    ensures { result ≡ begins_time word.now }
 {
-    if word.starts_with(b"\xEF\xBB\xBF".as_slice()) {
-        LineReason::ByteOrderMark
+    if word.len() < 2 {
+        word == b"[".as_slice()
     } else {
-        LineReason::NoTrace
+        word[0] == b'[' && digit(word[1]) < 10
+    }
+}
+
+/// Why the first word of a line is none that may stand there: `other`, if it is no time.
+pub fn first_reason(other: LineReason, word: &[u8]) -> LineReason
+    ensures { result ≡ first_reason other word.now }
+{
+    if begins_time(word) {
+        LineReason::LogTime
+    } else {
+        other
     }
 }
 
@@ -165,7 +175,10 @@ fn word_reason(machine: Header, field: Field, word: &[u8]) -> Option<LineReason>
     ensures { result ≡ word_reason machine field word.now }
 {
     match kind_of(field) {
-        FieldKind::Name => unless(word == b"watch".as_slice(), name_reason(word)),
+        FieldKind::Name => {
+            let reason = first_reason(LineReason::NoTrace, word);
+            unless(word == b"watch".as_slice(), reason)
+        }
         FieldKind::Version => unless(word == b"1".as_slice(), LineReason::OtherVersion),
         FieldKind::HartCount => harts_reason(machine, field, word),
         FieldKind::Scheme => unless(scheme(word).is_some(), LineReason::OtherScheme),
@@ -184,11 +197,46 @@ fn unless(test: bool, reason: LineReason) -> Option<LineReason>
     if test { None } else { Some(reason) }
 }
 
-/// Where the first tab of a word stands, or its length.
-fn first_tab(word: &[u8]) -> usize
-    ensures { result ≡ first_tab word.now }
+fn is_printable(byte: u8) -> bool
+    ensures { result ≡ is_printable byte }
 {
-    first_of(b'\t', word)
+    b' ' < byte && byte < 0x7F
+}
+
+/// Where the first byte of a word stands that no word has, or its length.
+fn first_wrong(word: &[u8]) -> usize
+    ensures { result ≡ first_wrong word.now }
+{
+    word.iter()
+        .position(|byte| !is_printable(*byte))
+        .unwrap_or(word.len())
+}
+
+/// What a byte is that no word has.
+fn byte_reason(byte: u8) -> LineReason
+    ensures { result ≡ byte_reason byte }
+{
+    if byte == 0 {
+        LineReason::ZeroByte
+    } else if byte == b'\t' {
+        LineReason::Tab
+    } else if byte == b'\r' {
+        LineReason::CarriageReturn
+    } else {
+        LineReason::OtherByte(byte)
+    }
+}
+
+/// What the first of these bytes is, which no word has.
+fn bytes_reason(bytes: &[u8]) -> LineReason
+    requires { 0 < length bytes.now }
+    ensures { result ≡ bytes_reason bytes.now }
+{
+    if bytes.starts_with(b"\xEF\xBB\xBF".as_slice()) {
+        LineReason::ByteOrderMark
+    } else {
+        byte_reason(bytes[0])
+    }
 }
 
 /// The fault of a wrong word, before which so many bytes stand.
@@ -199,12 +247,9 @@ pub fn wrong_word(before: usize, word: &[u8], reason: LineReason) -> LineFault
     if word.is_empty() {
         return fault_at(before.max(1), LineReason::Space);
     }
-    if word[word.len() - 1] == b'\r' {
-        return fault_at(before + word.len(), LineReason::CarriageReturn);
-    }
-    let tab = first_tab(word);
-    if tab < word.len() {
-        fault_at(before + tab + 1, LineReason::Tab)
+    let wrong = first_wrong(word);
+    if wrong < word.len() {
+        fault_at(before + wrong + 1, bytes_reason(&word[wrong..]))
     } else {
         fault_at(before + 1, reason)
     }

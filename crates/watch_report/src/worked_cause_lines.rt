@@ -10,6 +10,7 @@ pub fn worked_causes()
     ensures no_fence { lines.no_fence }
     ensures other_harts { lines.other_harts }
     ensures other_spaces { lines.other_spaces }
+    ensures spaces_of_kernel { lines.spaces_of_kernel }
     ensures other_pages { lines.other_pages }
     ensures not_done { lines.not_done }
 {}

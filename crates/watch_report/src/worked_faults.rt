@@ -20,6 +20,9 @@ pub fn worked_header_faults()
     ensures header_of_windows { faults.header_of_windows }
     ensures header_after_a_mark { faults.header_after_a_mark }
     ensures header_cut_after_a_space { faults.header_cut_after_a_space }
+    ensures header_after_a_time { faults.header_after_a_time }
+    ensures header_after_a_long_time { faults.header_after_a_long_time }
+    ensures table_of_a_scenario { faults.table_of_a_scenario }
     ensures fewest_harts { faults.fewest_harts }
     ensures most_harts { faults.most_harts }
 {}
@@ -64,6 +67,32 @@ pub fn worked_line_faults()
     ensures address_before_what_is_missing { faults.address_before_what_is_missing }
 {}
 
+/// Bytes that no word has, of two the first; and times of a kernel's log.
+#[tactic(auto, using(crate::proofs::WorkedFaults::wrong_bytes))]
+pub fn worked_byte_faults()
+    ensures mark_before_a_tab { faults.mark_before_a_tab }
+    ensures tab_before_a_mark { faults.tab_before_a_mark }
+    ensures mark_before_a_return { faults.mark_before_a_return }
+    ensures tab_before_a_return { faults.tab_before_a_return }
+    ensures return_before_a_tab { faults.return_before_a_tab }
+    ensures zero_before_a_tab { faults.zero_before_a_tab }
+    ensures tab_before_a_zero { faults.tab_before_a_zero }
+    ensures zero_before_a_return { faults.zero_before_a_return }
+    ensures return_before_a_zero { faults.return_before_a_zero }
+    ensures zeros_alone { faults.zeros_alone }
+    ensures file_of_zeros { faults.file_of_zeros }
+    ensures compressed { faults.compressed }
+    ensures escape_before_a_zero { faults.escape_before_a_zero }
+    ensures zero_before_an_escape { faults.zero_before_an_escape }
+    ensures delete { faults.delete }
+    ensures letter_with_an_accent { faults.letter_with_an_accent }
+    ensures last_printable { faults.last_printable }
+    ensures line_after_a_time { faults.line_after_a_time }
+    ensures line_after_a_long_time { faults.line_after_a_long_time }
+    ensures bracket_and_letter { faults.bracket_and_letter }
+    ensures bracket_in_a_field { faults.bracket_in_a_field }
+{}
+
 /// Lines that just have a form.
 #[tactic(auto, using(crate::proofs::WorkedFaults::formed_lines))]
 pub fn worked_formed_lines()
@@ -78,6 +107,7 @@ pub fn worked_formed_lines()
     ensures satp_of_bare { faults.satp_of_bare }
     ensures noted { faults.noted }
     ensures return_in_a_note { faults.return_in_a_note }
+    ensures zero_in_a_note { faults.zero_in_a_note }
     ensures comment_line { faults.comment_line }
     ensures mark { faults.mark }
     ensures empty_line { faults.empty_line }
@@ -95,4 +125,8 @@ pub fn worked_fault_texts()
     ensures text_of_an_asid { faults.text_of_an_asid }
     ensures text_of_a_mode { faults.text_of_a_mode }
     ensures text_of_a_mode_in_sv48 { faults.text_of_a_mode_in_sv48 }
+    ensures text_of_a_time { faults.text_of_a_time }
+    ensures text_of_a_mark { faults.text_of_a_mark }
+    ensures text_of_a_zero { faults.text_of_a_zero }
+    ensures text_of_a_byte { faults.text_of_a_byte }
 {}

@@ -103,4 +103,6 @@ pub fn worked_summaries()
     ensures some_verdicts { warnings.some_verdicts }
     ensures verdicts_of_both { warnings.verdicts_of_both }
     ensures all_verdicts { warnings.all_verdicts }
+    ensures before_a_wrong_line { warnings.before_a_wrong_line }
+    ensures one_before_a_wrong_line { warnings.one_before_a_wrong_line }
 {}

@@ -26,6 +26,7 @@ pub fn refused_endings()
     ensures warned_without_a_verdict { reports.warned_without_a_verdict }
     ensures warned_at_a_fault { reports.warned_at_a_fault }
     ensures warned_without_a_header { reports.warned_without_a_header }
+    ensures whole_at_a_fault { reports.whole_at_a_fault }
     ensures no_last_line_at_a_fault { reports.no_last_line_at_a_fault }
     ensures nothing_printed { reports.nothing_printed }
 {}

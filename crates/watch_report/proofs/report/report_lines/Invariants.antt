@@ -10,6 +10,6 @@ invariant-loop-number g l =
     (read : List (List ℕ)) × (records : List Noted)
     × AreRead (g.R.Read.remaining l.fn.input) (g.R.Read.remaining l.input) read
     × AreTaken l.fn.header read records
-    × Stands (told_of l.fn.detail l.fn.file) (g.W.Write.contents l.fn.out) (g.W.Write.contents l.out) records l.reading
+    × Stands (told_of l.fn.detail l.fn.filter l.fn.file) (g.W.Write.contents l.fn.out) (g.W.Write.contents l.out) records l.reading
     × (l.reading.header ≡ l.fn.header)
     × (l.number ≡ length read + 2)

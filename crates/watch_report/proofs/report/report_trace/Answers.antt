@@ -7,4 +7,4 @@ use Rattle.watch_report.proofs.EndingLemmas.{without_a_line}
 use Rattle.watch_report.proofs.report.report_trace.Goals as goal
 
 pub returns-in_default : goal.returns-in_default
-returns-in_default g c = without_a_line (told_of c.args.detail c.args.file.now) _ (unwrap_or (g.R.Read.remaining c.args.input) []) NoMemory (g.W.Write.contents c.args.out.now) (all_text _) tt
+returns-in_default g c = without_a_line (told_of c.args.detail c.args.filter c.args.file.now) _ (unwrap_or (g.R.Read.remaining c.args.input) []) NoMemory (g.W.Write.contents c.args.out.now) (all_text _) tt

@@ -12,9 +12,9 @@ returns-then-number-eq0 c = λ records are.
 pub returns-then-number-self : goal.returns-then-number-self
 returns-then-number-self c = λ records are.
     let beyond : c.args.self.now.count < c.args.number = search rules in
-    sym (no_line_beyond records c.args.number (omega (arith, beyond, are.count_is)))
+    sym (no_line_beyond records c.args.number (omega (arith, beyond, are.runs.count_is)))
 
 pub returns : goal.returns
 returns c = λ records are.
     line_found records c.args.self.now.count _ c.count_up_to.result c.args.number c.line_behind.result
-    (subst (AreRuns records c.args.self.now.count) (sym c.as_slice-runs.ensures.value) are) c.count_up_to.ensures.place c.count_up_to.ensures.within c.line_behind.ensures (search rules) (search rules)
+    (subst (AreRuns records c.args.self.now.count) (sym c.as_slice-runs.ensures.value) are.runs) c.count_up_to.ensures.place c.count_up_to.ensures.within c.line_behind.ensures (search rules) (search rules)

@@ -8,25 +8,25 @@ use Rattle.watch_report.proofs.VerdictLemmas.{fails_at_end, whole_text}
 use Rattle.watch_report.proofs.reading.Reading.finish.Goals as goal
 
 pub returns-in-Ok-clause-ok : goal.returns-in-Ok-clause-ok
-returns-in-Ok-clause-ok g c = λ detail start records at.
+returns-in-Ok-clause-ok g c = λ detail filter start records at.
     let r = c.args.self.now in
     let file = c.args.file.now in
-    let summary = summary_line r.records r.user r.kernel in
+    let summary = summary_line r.records c.args.wrong r.user r.kernel in
     let totals = totals_by detail file r.header.scheme records at.given in
     let last : c.as_slice.result.now ≡ totals ++ summary =
     c.as_slice.ensures.value ∙ c.in_ok-push_summary.ensures.ok
     ∙ ap (λ (l : List ℕ). l ++ summary) (c.in_ok-push_end.ensures detail r.header.scheme records at.given at.seen.past at.seen.telling ∙ ap (λ (l : List ℕ). l ++ totals) c.new-text.ensures.items) in
-    let whole = whole_text (told_of detail file) r.header.scheme records at.given c.has_verdicts.result r.user r.kernel r.records at.seen.are c.has_verdicts.ensures at.seen.user at.seen.kernel at.seen.number in
+    let whole = whole_text (told_of detail filter file) c.args.wrong r.header.scheme records at.given c.has_verdicts.result r.user r.kernel r.records at.seen.are c.has_verdicts.ensures at.seen.user at.seen.kernel at.seen.number in
     (_, whole, Appends-trans start _ _ _ _ at.written (subst (Appends _ _) last c.in-Ok.ensures.ok))
 
 pub returns-clause-err : goal.returns-clause-err
-returns-clause-err g c = λ detail start records at.
+returns-clause-err g c = λ detail filter start records at.
     let r = c.args.self.now in
     let file = c.args.file.now in
-    let summary = summary_line r.records r.user r.kernel in
+    let summary = summary_line r.records c.args.wrong r.user r.kernel in
     let totals = totals_by detail file r.header.scheme records at.given in
     let last : c.as_slice.result.now ≡ totals ++ summary =
     c.as_slice.ensures.value ∙ c.in_ok-push_summary.ensures.ok
     ∙ ap (λ (l : List ℕ). l ++ summary) (c.in_ok-push_end.ensures detail r.header.scheme records at.given at.seen.past at.seen.telling ∙ ap (λ (l : List ℕ). l ++ totals) c.new-text.ensures.items) in
-    let whole = whole_text (told_of detail file) r.header.scheme records at.given _ r.user r.kernel r.records at.seen.are refl at.seen.user at.seen.kernel at.seen.number in
-    fails_at_end (told_of detail file) (Err c.in-Err.fault) _ records _ _ _ start _ _ whole at.written c.in-Err.ensures.fault (subst (AppendsFront _ _) last c.in-Err.ensures.err)
+    let whole = whole_text (told_of detail filter file) c.args.wrong r.header.scheme records at.given _ r.user r.kernel r.records at.seen.are refl at.seen.user at.seen.kernel at.seen.number in
+    fails_at_end (told_of detail filter file) c.args.wrong (Err c.in-Err.fault) _ records _ _ _ start _ _ whole at.written c.in-Err.ensures.fault (subst (AppendsFront _ _) last c.in-Err.ensures.err)
