@@ -134,7 +134,7 @@ judge 'BUILD has what the gate printed last' '    rt: all proved|    8 passed, 0
 judge 'the version' "$(cat "$root/BUILD")" "$(bare "$root/bin/svsim" --version)"
 judge 'the tour' 3 "$(cd / && bare "$root/bin/svsim" tour | grep -c '^\$ svsim [a-z]* /')"
 options=$(bare "$root/bin/svsim" help watch | sed -n 's/^  \(--[a-z]*\) .*/\1/p' | tr '\n' ' ')
-judge 'the options of watch' '--all --quiet --hart --page --kind ' "$options"
+judge 'the options of watch' '--all --quiet ' "$options"
 commands=$(bare "$root/bin/svsim" help | sed -n 's/^  \([a-z]*\) .*/\1/p' | tr '\n' ' ')
 judge 'the commands' 'run live walk stale show draw check watch tour help version ' "$commands"
 

@@ -46,18 +46,12 @@ take_apart() {
     done
 }
 
-# The words of a case, a line each: the command, behind a digit in the tour, and the options of watch.
+# The words of a case, a line each: the command, behind a digit in the tour, and the option of watch.
 words_of() {
     case $1 in
-    watch*with*) printf 'watch\n%s%s{}\n' "${option:+--$option$newline}" "$tests" ;;
     watchall | watchquiet) printf 'watch\n--%s\n{}\n' "${1#watch}" ;;
     *) printf '%s\n{}\n' "${1#[0-9]}" ;;
     esac
-}
-
-# What a build answers on a file: all that suits it, or what was asked for alone, where it is of some verdicts.
-cases_of() {
-    if [ -n "$tests" ]; then echo "$asked"; else suiting "$command" "$1"; fi
 }
 
 # Builds the program without a proof, and has it answer these cases on a file: CASE FILE [CASE FILE ..]
@@ -78,7 +72,7 @@ build() {
 build_watch() {
     cases=$own/cases
     mkdir "$cases"
-    names=$(cases_of "$1")
+    names=$(suiting watch)
     for each in $names; do
         cp "$1" "$cases/$each"
         words_of "$each" | sed 1d >"$cases/$each.args"
@@ -152,7 +146,7 @@ begin() {
 
 answer() {
     begin
-    asked=$command$option${tests:+with$(printf %s "$tests" | sha256sum | cut -c1-16)}
+    asked=$command$option
     if ! { copy_of "$command" "$file" >"$own/given"; } 2>/dev/null; then refuse "cannot read $file" "is it there, and yours to read?"; fi
     if [ "$command" != watch ] && [ "$(wc -c <"$own/given")" -gt $most_bytes ]; then
         refuse 'file too large' "a file has at most $most_bytes bytes"
@@ -169,7 +163,7 @@ answer() {
     fi
     if [ -n "$whole" ]; then
         set --
-        for each in $(cases_of "$own/given"); do set -- "$@" "$each" "$own/given"; done
+        for each in $(suiting "$command" "$own/given"); do set -- "$@" "$each" "$own/given"; done
         build "$@"
         take_apart "$folder" $names
     fi

@@ -10,9 +10,11 @@ function __svsim_wants_command
     set -l command (__svsim_command)
     contains -- "$command" '' help
 end
-# The options of the command.
+# The options of the command, where none is given yet.
 function __svsim_options
-    svsim help (__svsim_command) 2>/dev/null | string replace --regex --filter '^  (--[a-z]+) +(.*)' '$1\t$2'
+    if not string match --quiet --regex -- '^-.' (commandline -opc)[2..]
+        svsim help (__svsim_command) 2>/dev/null | string replace --regex --filter '^  (--[a-z]+) +(.*)' '$1\t$2'
+    end
 end
 complete -c svsim -f -n __svsim_wants_command -a '(__svsim_commands)'
 complete -c svsim -F -n 'not __svsim_wants_command' -a '(__svsim_options)'

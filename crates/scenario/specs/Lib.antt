@@ -13,4 +13,3 @@ pub mod CommandLine
 pub mod Shown
 pub mod Outcomes
 pub mod WorkedFiles
-pub mod WorkedWords

@@ -52,7 +52,5 @@ pub use system::start;
 pub use texts::{run_text, walk_text};
 pub use trouble::Trouble;
 pub use watch_program::{watch_command, watch_command_with};
-pub use watch_report::{Detail, Filter, Kind, read_filter};
-pub use word_laws::{
-    words_are_read, worked_filters, worked_options, worked_refusals, worked_texts, worked_words,
-};
+pub use watch_report::Detail;
+pub use word_laws::{words_are_read, worked_words};

@@ -41,11 +41,18 @@ fn given_words<R: Env + AllocGlobal>(rt: &R) -> Result<Vec<String>, NoWords> {
     Ok(words.collect(rt.alloc())?)
 }
 
-/// Whether `watch` is one of the words after the program's name. Of words that ask for another command on
-/// the file `-` it is none, since no other has options.
+/// Whether a word is an option of `watch`, or ends the options.
+fn is_option(word: &str) -> bool {
+    word == "--all" || word == "--quiet" || word == "--"
+}
+
+/// Whether `watch` is the first of the words after the program's name but for its options.
 fn is_of_trace(words: &Result<Vec<String>, NoWords>) -> bool {
     match words {
-        Ok(words) => words.iter().skip(1).any(|word| word.as_str() == "watch"),
+        Ok(words) => {
+            let word = words.iter().skip(1).find(|word| !is_option(word.as_str()));
+            word.is_some_and(|word| word.as_str() == "watch")
+        }
         Err(_) => false,
     }
 }

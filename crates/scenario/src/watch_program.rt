@@ -33,27 +33,30 @@ fn trouble_of(fault: ReportFault) -> Trouble
     }
 }
 
-/// Does `watch` on the trace that `input` reads, for the verdicts that the filter takes, and answers the
-/// status of the program: 0 without such a verdict, 1 with some, 2 not read, 3 a wrong line and no such
-/// verdict before it, 4 the output failed, 5 out of memory. What the detail asks for goes to `out` as
-/// soon as its record is read, and stays at 2 to 5. At a wrong line, whose status is 1 or 3, the counts so
-/// far come last. At 2 to 5 and at a wrong line one line goes to `err`, as far as it takes it; its own
-/// faults count for nothing. `file` is the trace's name in the lines. A trace and its lines may have any
-/// length. A read that fails is `cannot read`, but for want of memory; one that a signal interrupts is
-/// tried again (`read_retrying`).
+/// Does `watch` on the trace that `input` reads, and answers the status of the program: 0 without a
+/// verdict, 1 with some, 2 not read, 3 a wrong line and no verdict before it, 4 the output failed, 5 out
+/// of memory. What the detail asks for goes to `out` as soon as its record is read, and stays at 2 to 5.
+/// At a wrong line, whose status is 1 or 3, the counts so far come last. At 2 to 5 and at a wrong line one
+/// line goes to `err`, as far as it takes it; its own faults count for nothing. `file` is the trace's name
+/// in the lines. A trace and its lines may have any length. A read that fails is `cannot read`, but for
+/// want of memory; one that a signal interrupts is tried again (`read_retrying`).
 pub fn watch_command_with<R: Read + Drop, W: Write, E: Write>(
     alloc: Global,
     detail: Detail,
-    filter: Filter,
     file: &str,
     input: R,
     out: &mut W,
     err: &mut E,
 ) -> u8
     ensures { (text : List ℕ) × AreLeft (R.remaining input) text
-        × EndsWatch (told_of detail filter file.now) text result
-        (W.contents out.old) (W.contents out.new) (E.contents err.old) (E.contents err.new) }
+        × EndsWatch (told_of detail no_filter file.now) text result (W.contents out.old) (W.contents out.new)
+        (E.contents err.old) (E.contents err.new) }
 {
+    let filter = Filter {
+        hart: None,
+        address: None,
+        kind: None,
+    };
     match report_trace(alloc, detail, filter, file, input, out) {
         Ok(false) => DONE,
         Ok(true) => WARNED,
@@ -70,13 +73,8 @@ pub fn watch_command<R: Read + Drop, W: Write, E: Write>(
     err: &mut E,
 ) -> u8
     ensures { (text : List ℕ) × AreLeft (R.remaining input) text
-        × EndsWatch (told_of Verdicts no_filter file.now) text result
-        (W.contents out.old) (W.contents out.new) (E.contents err.old) (E.contents err.new) }
+        × EndsWatch (told_of Verdicts no_filter file.now) text result (W.contents out.old) (W.contents out.new)
+        (E.contents err.old) (E.contents err.new) }
 {
-    let filter = Filter {
-        hart: None,
-        address: None,
-        kind: None,
-    };
-    watch_command_with(alloc, Detail::Verdicts, filter, file, input, out, err)
+    watch_command_with(alloc, Detail::Verdicts, file, input, out, err)
 }
