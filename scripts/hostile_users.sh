@@ -84,6 +84,31 @@ done
 judge 'a pipe that ends' "$status" 4 'output failed' wanted
 (trap '' PIPE; "$svsim" run long.toml 2>err | head -c 100 >out; exit "${PIPESTATUS[0]}"); status=$?
 judge 'a pipe that ends, its signal ignored' $status 4 'output failed' wanted
+printf 'watch 1 2 sv39\nu 1 1000\n' >quiet.trace
+"$svsim" watch quiet.trace >/dev/full 2>err; status=$?; : >out
+judge 'watch, to a full device' $status 4 'output failed' any
+"$svsim" watch quiet.trace >&- 2>err; status=$?
+judge 'watch, without an output' $status 4 'output failed' any
+printf 'watch 1 2 sv39\nu 1 1000\nu 2 1000\n' >wrong.trace
+: >out
+{ sleep 0.2; "$svsim" watch "$top/examples/watch/left-out-hart.trace" 2>err; } | true; status=${PIPESTATUS[0]}
+judge 'a trace with verdicts, to a pipe that nobody reads' "$status" 1 '' any
+{ sleep 0.2; "$svsim" watch quiet.trace 2>err; } | true; status=${PIPESTATUS[0]}
+judge 'a trace without a verdict, to a pipe that nobody reads' "$status" 0 '' any
+{ sleep 0.2; "$svsim" watch wrong.trace 2>err; } | true; status=${PIPESTATUS[0]}
+sed -i 's/^/svsim: /' err
+judge 'a wrong line, to a pipe that nobody reads' "$status" 3 'wrong.trace:3:3: no hart 2: harts are 0 to 1' any
+if command -v script >/dev/null; then
+    mkfifo slow
+    { printf 'watch 1 2 sv39\n'; sleep 2.5; printf 'u 1 1000\n'; } >slow &
+    script -qec "'$svsim' watch slow" /dev/null </dev/null >out; status=$?; : >err
+    printf '0 MB read\033[K\r\033[K1 record, no verdict\r\n' >wanted
+    judge 'a trace that takes long, at a terminal' $status 0 '' wanted
+    { printf 'watch 1 2 sv39\n'; sleep 2.5; printf 'u 1 1000\n'; } >slow &
+    script -qec "'$svsim' watch slow | cat" /dev/null </dev/null >out; : >err
+    printf '1 record, no verdict\r\n' >wanted
+    judge 'a trace that takes long, to a pipe' 0 0 '' wanted
+fi
 (trap '' XFSZ; ulimit -f 1; "$svsim" run long.toml >out 2>err); status=$?
 judge 'a file that may not grow' $status 4 'output failed' any
 

@@ -134,7 +134,7 @@ judge 'BUILD has what the gate printed last' '    rt: all proved|    8 passed, 0
 judge 'the version' "$(cat "$root/BUILD")" "$(bare "$root/bin/svsim" --version)"
 judge 'the tour' 3 "$(cd / && bare "$root/bin/svsim" tour | grep -c '^\$ svsim [a-z]* /')"
 options=$(bare "$root/bin/svsim" help watch | sed -n 's/^  \(--[a-z]*\) .*/\1/p' | tr '\n' ' ')
-judge 'the options of watch' '--all --quiet ' "$options"
+judge 'the options of watch' '--all --quiet --hart --page --kind ' "$options"
 commands=$(bare "$root/bin/svsim" help | sed -n 's/^  \([a-z]*\) .*/\1/p' | tr '\n' ' ')
 judge 'the commands' 'run live walk stale show draw check watch tour help version ' "$commands"
 
@@ -189,6 +189,8 @@ if has bash; then
         COMP_WORDS=("$1/bin/svsim" "") COMP_CWORD=1; _svsim; printf "%s " "${COMPREPLY[@]}"' bash "$root")"
     judge 'options by bash' "$options" "$(bare bash -c '. "$1/share/bash-completion/completions/svsim"
         COMP_WORDS=("$1/bin/svsim" watch -) COMP_CWORD=2; _svsim; printf "%s " "${COMPREPLY[@]}"' bash "$root")"
+    judge 'kinds by bash' 'kernel-claim kernel-free kernel-reuse kernel-use ' "$(bare bash -c '. "$1/share/bash-completion/completions/svsim"
+        COMP_WORDS=("$1/bin/svsim" watch --kind = k) COMP_CWORD=4; _svsim; printf "%s " "${COMPREPLY[@]}"' bash "$root")"
     judge 'the command behind an option by bash' 'watch ' "$(bare bash -c '. "$1/share/bash-completion/completions/svsim"
         COMP_WORDS=("$1/bin/svsim" --all wat) COMP_CWORD=2; _svsim; printf "%s " "${COMPREPLY[@]}"' bash "$root")"
     judge 'files by bash' "$root/BUILD" "$(bare bash -c '. "$1/share/bash-completion/completions/svsim"
@@ -202,6 +204,8 @@ if has fish; then
         source $argv[1]/share/fish/vendor_completions.d/svsim.fish; complete -C "svsim wa"' "$root" | cut -f 1 | tr '\n' ' ')"
     judge 'options by fish' "$options" "$(HOME=$own PATH=$root/bin:$PATH fish --no-config -c '
         source $argv[1]/share/fish/vendor_completions.d/svsim.fish; complete -C "svsim watch --"' "$root" | cut -f 1 | tr '\n' ' ')"
+    judge 'kinds by fish' 'kernel-claim kernel-free kernel-reuse kernel-use ' "$(HOME=$own PATH=$root/bin:$PATH fish --no-config -c '
+        source $argv[1]/share/fish/vendor_completions.d/svsim.fish; complete -C "svsim watch --kind k"' "$root" | cut -f 1 | tr '\n' ' ')"
 else
     skip 'completion by fish'
 fi

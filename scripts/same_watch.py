@@ -2,13 +2,13 @@
 """Compares the two programs that judge traces: same_watch.py SVSIM SVSIM_WATCH
 
 On each trace of examples/ and of the lists of cases `svsim watch` and `svsim_watch` write the same, and end with the same status:
-without an option, with `--all`, and with `--quiet`. The last line is `N passed, M failed`.
+without an option, with `--all`, with `--quiet`, and with tests of the verdicts. The last line is `N passed, M failed`.
 """
 import glob, os, re, subprocess, sys, tempfile
 from cases import cases, read
 
 TOP = os.path.dirname(os.path.dirname(os.path.abspath(__file__)))
-OPTIONS = ([], ["--all"], ["--quiet"])
+OPTIONS = ([], ["--all"], ["--quiet"], ["--hart", "1"], ["--page", "1000"], ["--all", "--kind", "kernel-free", "--hart", "1"])
 
 
 def traces():

@@ -46,12 +46,18 @@ take_apart() {
     done
 }
 
-# The words of a case, a line each: the command, behind a digit in the tour, and the option of watch.
+# The words of a case, a line each: the command, behind a digit in the tour, and the options of watch.
 words_of() {
     case $1 in
+    watch*with*) printf 'watch\n%s%s{}\n' "${option:+--$option$newline}" "$tests" ;;
     watchall | watchquiet) printf 'watch\n--%s\n{}\n' "${1#watch}" ;;
     *) printf '%s\n{}\n' "${1#[0-9]}" ;;
     esac
+}
+
+# What a build answers on a file: all that suits it, or what was asked for alone, where it is of some verdicts.
+cases_of() {
+    if [ -n "$tests" ]; then echo "$asked"; else suiting "$command" "$1"; fi
 }
 
 # Builds the program without a proof, and has it answer these cases on a file: CASE FILE [CASE FILE ..]
@@ -72,7 +78,7 @@ build() {
 build_watch() {
     cases=$own/cases
     mkdir "$cases"
-    names=$(suiting watch)
+    names=$(cases_of "$1")
     for each in $names; do
         cp "$1" "$cases/$each"
         words_of "$each" | sed 1d >"$cases/$each.args"
@@ -127,7 +133,15 @@ named_fault() {
 
 # Prints the answer that was asked for, of those in a folder.
 print_answer() {
-    named "$command" <"$1/$asked.out"
+    if [ "$command" = watch ]; then
+        # That nobody reads on is no fault of watch.
+        (trap '' PIPE && LC_ALL=C && export LC_ALL && named watch <"$1/$asked.out" 2>"$own/unread") || grep -q 'Broken pipe' "$own/unread" || {
+            cat "$own/unread" >&2
+            exit 4
+        }
+    else
+        named "$command" <"$1/$asked.out"
+    fi
     named_fault "$command" <"$1/$asked.err" >&2
     status=$(cat "$1/$asked.status")
     fault_hint "$command" "$file" "$status"
@@ -146,7 +160,7 @@ begin() {
 
 answer() {
     begin
-    asked=$command$option
+    asked=$command$option${tests:+with$(printf %s "$tests" | sha256sum | cut -c1-16)}
     if ! { copy_of "$command" "$file" >"$own/given"; } 2>/dev/null; then refuse "cannot read $file" "is it there, and yours to read?"; fi
     if [ "$command" != watch ] && [ "$(wc -c <"$own/given")" -gt $most_bytes ]; then
         refuse 'file too large' "a file has at most $most_bytes bytes"
@@ -163,7 +177,7 @@ answer() {
     fi
     if [ -n "$whole" ]; then
         set --
-        for each in $(suiting "$command" "$own/given"); do set -- "$@" "$each" "$own/given"; done
+        for each in $(cases_of "$own/given"); do set -- "$@" "$each" "$own/given"; done
         build "$@"
         take_apart "$folder" $names
     fi

@@ -83,11 +83,20 @@ def last_line(records, due):
 
 
 def printed(due, name):
-    """The lines that a program prints of a file, in the order of their records; of each verdict one text is known."""
-    for text, rest in sorted(due.items(), key=lambda item: int(item[0].split()[0])):
+    """The lines that a program prints of a file, in order; of each verdict one text is known."""
+    for text, rest in sorted(due.items(), key=lambda item: place(item[0])):
         (since,) = rest
         line, head, page = re.fullmatch(r"(\d+) (\S+ hart \d+) (.*)", text).groups()
         yield f"{name}:{line}: {head} may hold page {page}{' root any' if page.endswith(' any') else ''}, {since}"
+
+
+def place(text):
+    """Where a verdict stands: by line, hart, page, PPN, rights, owner, kind, root and ASID. What is global has no root and no ASID."""
+    line, owner, kind, hart, base, size, ppn, rights, asid, root = re.fullmatch(
+        r"(\d+) (kernel-)?(\S+) hart (\d+) (\w+)\+(\w+) -> (\w+) (\S{4})\S asid (\w+)(?: root (\w+))?", text).groups()
+    bits = sum(1 << bit for bit, letter in enumerate(rights) if letter != "-")
+    scope = (int(root, 16), int(asid, 16)) if root else ()
+    return int(line), int(hart), int(base, 16), int(size, 16), int(ppn, 16), bits, bool(owner), VERDICTS.index(kind), scope
 
 
 def as_shown(line):
@@ -109,23 +118,21 @@ def difference(due, records, program):
     for text, rest in got:
         if rest not in due[text]:
             return f"{text!r} goes on {rest!r}, not {sorted(due[text])}"
-    numbers = [int(text.split()[0]) for text in texts]
-    if numbers != sorted(numbers):
-        return "not in the order of the records"
+    if texts != sorted(texts, key=place):
+        return "not in order"
     if last != last_line(records, due):
         return f"last line {last!r}, not {last_line(records, due)!r}"
     return None if program.returncode == bool(due) else f"status {program.returncode}, not {int(bool(due))}"
 
 
 def listed(count):
-    """Traces at whose records one line at most is due, so that the order is given; at most 15 of them without a verdict."""
+    """Short traces, whose lines are known to the last letter; at most 15 of them without a verdict."""
     seed, quiet = 0, 0
     while count:
         seed += 1
         lines = list(made(seed))
         due = wanted(lines, {})
-        numbers = [int(text.split()[0]) for text in due]
-        if len(lines) > 75 or len(set(numbers)) < len(numbers) or any(len(rest) > 1 for rest in due.values()) or (not due and quiet == 15):
+        if len(lines) > 75 or any(len(rest) > 1 for rest in due.values()) or (not due and quiet == 15):
             continue
         count, quiet = count - 1, quiet + (not due)
         yield from (f"=== {seed}", *lines, f"--- svsim watch --all FILE: {int(bool(due))}")

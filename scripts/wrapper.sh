@@ -108,6 +108,32 @@ for word in --all --quiet; do
     refuses "$word tour"
     refuses "watch $word --help"
 done
+for word in '--hart 1' '--page 1' '--kind use'; do
+    for command in run live walk stale show draw check; do
+        refuses "$command $word file.toml"
+        refuses "$command ${word% *}=${word#* } file.toml"
+    done
+    refuses "watch $word"
+    refuses "$word file.trace"
+    refuses "watch file.trace ${word% *}"
+    refuses "watch ${word% *} file.trace"
+    refuses "watch ${word% *}= file.trace"
+    refuses "watch ${word% *} - file.trace"
+    refuses "$word watch file.trace more"
+    refuses "watch ${word% *} --all file.trace"
+    refuses "watch ${word% *} -- ${word#* } file.trace"
+    refuses "watch $word $word file.trace"
+    refuses "watch $word ${word% *}=${word#* } file.trace"
+    refuses "watch ${word%? *} ${word#* } file.trace"
+    refuses "watch ${word% *}=${word#* }=2 file.trace"
+    refuses "watch file.trace -- $word"
+    refuses "$word tour"
+done
+for word in 'hart 64' 'hart a' 'hart -1' 'hart 00000000000000001' 'hart 1e' 'page 0x1000' 'page g' 'page 10000000000000000' 'kind Claim' \
+    'kind frees' 'kind kernel' 'kind kernel-kernel-use' 'kind claim,use'; do
+    refuses "watch --$word file.trace"
+    refuses "watch --${word% *}=${word#* } file.trace"
+done
 refuses 'watch --all --quiet file.trace'
 refuses '--quiet watch file.trace --all'
 refuses 'watch --everything file.trace'
@@ -127,7 +153,7 @@ for word in run live walk stale show draw check watch; do
     judge "$word --help" "$(cat "$own/help")" "$(cat "$own/out")"
 done
 says 'help of watch' 0 'help watch' ''
-judge 'help of watch has its options' '--all --quiet ' "$(sed -n 's/^  \(--[a-z]*\) .*/\1/p' "$own/out" | tr '\n' ' ')"
+judge 'help of watch has its options' '--all --quiet --hart --page --kind ' "$(sed -n 's/^  \(--[a-z]*\) .*/\1/p' "$own/out" | tr '\n' ' ')"
 says 'help of no command' 2 'help rnu' 'svsim: usage: svsim COMMAND FILE'
 says 'the version' 0 --version ''
 judge 'the version names the toolchain' one "$(tail -n 1 "$own/out")"
@@ -146,6 +172,8 @@ helps 'a command without a file' run 'svsim help lists the commands'
 helps 'watch without a file' watch 'svsim help watch tells what it takes'
 helps 'both options' "watch --all --quiet $own/file.toml" 'svsim help watch tells what it takes'
 helps 'a slip behind an option' "--all wach $own/file.toml" 'perhaps svsim watch; svsim help lists the commands'
+helps 'a slip behind an option with a value' "--hart 1 wach $own/file.toml" 'perhaps svsim watch; svsim help lists the commands'
+helps 'an option without its value' "watch $own/file.toml --hart" 'svsim help watch tells what it takes'
 helps 'an option of watch for run' "run --all $own/file.toml" 'svsim help lists the commands'
 helps 'an option alone' --quiet 'svsim help lists the commands'
 helps 'no file' "run $own/none" 'no such file'
@@ -339,6 +367,19 @@ watches 'watch -- --all' ''
 watches 'watch --quiet -- --all' ' --quiet'
 watches '-- watch --all' ''
 judge 'one build answered them all' $((before + 1)) "$(builds)"
+watches 'watch --hart 1 file.trace' ' --hart 1'
+watches 'watch file.trace --hart=1' ' --hart 1'
+watches '--hart 1 watch -- --all' ' --hart 1'
+judge 'a build answers a test of the verdicts' $((before + 2)) "$(builds)"
+watches 'watch --hart 2 file.trace' ' --hart 2'
+watches 'watch --kind kernel-free --all --page 1000 file.trace' ' --all --kind kernel-free --page 1000'
+watches 'watch --kind kernel-free --page=1000 --all -- file.trace' ' --all --kind kernel-free --page 1000'
+watches 'watch --quiet --page fFfF file.trace' ' --quiet --page fFfF'
+judge 'and another each other test' $((before + 5)) "$(builds)"
+watches 'watch file.trace' ''
+watches 'watch --all file.trace' ' --all'
+judge 'the answers without one are kept beside' $((before + 5)) "$(builds)"
+before=$((before + 4))
 echo 'a trace that is handed over' >"$own/file.trace"
 for option in '' --all --quiet; do
     judge "a trace from standard input ${option:-without an option}" "line of watch${option:+ $option}" \
@@ -384,6 +425,9 @@ judge 'the name in a report: standard input' "$(report -)" "$("$svsim" watch - <
 cp "$own/file.trace" "$own/a \&1 \\n é"
 judge 'the name in a report: letters of awk and sed' "$own/a \&1 \\n é:15: use hart 1" \
     "$("$svsim" watch "$own/a \&1 \\n é" 2>/dev/null | head -n 1)"
+{ sleep 0.2; "$svsim" watch "$own/file.trace" 2>"$own/unread"; echo "$?" >"$own/unread_status"; } | true
+judge 'a report that nobody reads: its status' "$(cat "$own/watch_status")" "$(cat "$own/unread_status")"
+judge 'a report that nobody reads: nothing is said' '' "$(grep -v '^svsim: ' "$own/unread")"
 judge 'no other command has it' "$(cat "$own/lines")" "$("$svsim" run "$own/file.trace" 2>/dev/null | sed '$d')"
 judge 'the tour names its trace' 'examples/watch/left-out-hart.trace:15: use hart 1' \
     "$("$svsim" tour 2>/dev/null | grep ': use hart 1$' | tail -n 1)"
@@ -448,6 +492,7 @@ echo 'svsim of a release' >"$own/release/BUILD"
 printf '#!/bin/sh\necho called >"%s"\n' "$own/called" >"$own/bin/rt"
 judge 'a release answers' "released watch -" "$("$svsim" watch -)"
 judge 'a release passes an option on' "released --all watch -" "$("$svsim" --all watch -)"
+judge 'and one with a value' "released watch --hart 1 --kind=use -" "$("$svsim" watch --hart 1 --kind=use -)"
 judge 'and two dashes' "released watch --quiet -- -" "$("$svsim" watch --quiet -- -)"
 says 'both options, of a release' 2 'watch --all --quiet -' 'svsim: usage: svsim COMMAND FILE'
 judge 'its status' 1 "$("$svsim" run "$own/file.toml" >/dev/null; echo $?)"

@@ -1,12 +1,21 @@
-# bash: the commands of svsim as `svsim help` lists them, the options of a command as its help lists them, and files.
+# bash: the commands of svsim as `svsim help` lists them, the options of a command and the kinds as its help lists them, and files.
 _svsim() {
-    local word=${COMP_WORDS[COMP_CWORD]} program=${COMP_WORDS[0]/#\~/$HOME} command='' option='' each
+    local word=${COMP_WORDS[COMP_CWORD]} program=${COMP_WORDS[0]/#\~/$HOME} command='' option='' kinds='' each
     for each in "${COMP_WORDS[@]:1:COMP_CWORD-1}"; do
-        case $each in -?*) option=$each ;; *) command=${command:-$each} ;; esac
+        case $option:$each in --hart:= | --page:= | --kind:=) continue ;; esac
+        case $option:$each in --hart:* | --page:* | --kind:*) option='' && continue ;; esac
+        case $each in -?*) option=$each ;; *) command=${command:-$each} option='' ;; esac
     done
-    if [ -z "$command" ] || [ "$command" = help ]; then
+    if [ "$option" = --kind ]; then
+        for each in $("$program" help watch 2>/dev/null | sed -n 's/^  --kind .*: \([a-z, ]*\), or .*/\1/p' | tr -d ,); do
+            kinds="$kinds $each kernel-$each"
+        done
+        mapfile -t COMPREPLY < <(compgen -W "$kinds" -- "${word#=}")
+    elif [ "$option" = --hart ] || [ "$option" = --page ]; then
+        COMPREPLY=()
+    elif [ -z "$command" ] || [ "$command" = help ]; then
         mapfile -t COMPREPLY < <(compgen -W "$("$program" help 2>/dev/null | sed -n 's/^  \([a-z]*\) .*/\1/p')" -- "$word")
-    elif [ -z "$option" ] && [[ $word == -* ]]; then
+    elif [[ $word == -* ]]; then
         mapfile -t COMPREPLY < <(compgen -W "$("$program" help "$command" 2>/dev/null | sed -n 's/^  \(--[a-z]*\) .*/\1/p')" -- "$word")
     else
         compopt -o filenames

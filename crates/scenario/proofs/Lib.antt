@@ -6,6 +6,7 @@ pub mod AskLemmas
 pub mod TroubleLemmas
 pub mod RowLemmas
 pub mod OptionLemmas
+pub mod StepLemmas
 pub mod WordLemmas
 pub mod OutcomeLemmas
 pub mod StaleLemmas

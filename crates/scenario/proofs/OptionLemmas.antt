@@ -1,23 +1,22 @@
--- Which words clap takes for options, and which of these it refuses.
-use Rattle.std.proofs.Common.{◌≡◌, ◌∙◌, ◌&&◌, ◌||◌, ◌==◌, ◌+◌, ℕ, Bool, true, false, suc, not, List, [], ◌∷◌, length, take, Option, Some, None, refl, sym, subst, ap, ap₂, arith, true≢false, cond, eqb-true}
-use Rattle.std.specs.Prelude.{codes, option_and_then, slice_get, if◌then◌else◌}
-use Rattle.std.specs.List.{after_first, before_first, list_any, position_or_len}
+-- What clap makes of a word that looks like an option.
+use Rattle.std.proofs.Common.{◌≡◌, ◌∙◌, ◌&&◌, ◌==◌, ℕ, Bool, true, false, List, [], ◌∷◌, length, Option, Some, None, refl, sym, subst, ap, true≢false, cond, eqb-true, option_map}
+use Rattle.std.specs.Prelude.{find, is_some, option_and_then, slice_get}
 use Rattle.std.specs.Option.{option_map_or}
 use lib.Utf8.{scalars}
 use Rattle.std.specs.Char.{encode_utf8}
 use Rattle.std.specs.Str.{bytes_eq, chars, encode_utf8_all, is_utf8}
-use Rattle.std.proofs.lemmas.Slice.Eq.{bytes_eq-Decides}
 use Rattle.clap.specs.Words.{Row, Text}
-use Rattle.clap.specs.declared.error.kind.ErrorKind.{ErrorKind}
-use Rattle.clap.specs.declared.error.kind.ErrorKind.TheVariants as kinds
-use Rattle.clap.specs.Faults.{bundle_fault, bundle_step_fault, flag_word_fault, flags_fault, long_fault, word_fault}
+use Rattle.clap.specs.Faults.{bundle_fault, bundle_step_fault, flag_word_fault, flags_fault, long_fault}
 use Rattle.clap.specs.Kinds.{Kinds}
-use Rattle.clap.specs.Lexer.{has_byte, long_of, long_of_rest, short_of, short_of_rest, strip_byte}
-use Rattle.clap.specs.Walk.{Held, idle}
-use Rattle.scenario.specs.CommandLine.{is_end, is_option}
-use Rattle.scenario.proofs.RowLemmas.{all_rule, quiet_rule, top}
+use Rattle.clap.specs.Lexer.{long_of, long_of_rest, short_of, short_of_rest, strip_byte}
+use Rattle.clap.specs.Walk.{Held}
+use Rattle.scenario.specs.CommandLine.{Known, is_end, is_option, known, name_in, option_in, value_in}
+use Rattle.scenario.proofs.RowLemmas.{long_rule, named, rule_by, top}
 
-abbrev pub held_of : List Row → Option (Text × List Text) → Held
+abbrev pub Pending : Type 0
+Pending = Option (Text × List Text)
+
+abbrev pub held_of : List Row → Pending → Held
 held_of rows pending = record { rows = rows; pending = pending; skip = 0 }
 
 -- ---- words that are no options
@@ -39,13 +38,7 @@ plain_word (x ∷ []) no_end no_option = (no_end, one_long (x == 45), one_short 
     one_short false = refl
 plain_word (x ∷ y ∷ rest) no_end no_option = (no_end, rw no_option refl, rw no_option refl)
 
--- ---- options that are neither `--all` nor `--quiet`
-
-abbrev pub IsOther : Text → Type 0
-IsOther word = (bytes_eq word (codes "--all") ≡ false) × (bytes_eq word (codes "--quiet") ≡ false)
-
-abbrev pub IsRefused : Text → List Row → Option (Text × List Text) → Type 0
-IsRefused word rows pending = (kind : ErrorKind) × (word_fault top [] false idle word (held_of rows pending) ≡ kind ∷ [])
+-- ---- options
 
 -- a text of more than one byte has a second character, if its first is one byte
 second_char : (y : ℕ) (rest : Text) → is_utf8 (45 ∷ y ∷ rest) ≡ true → (c : ℕ) × (cs : List ℕ) × (chars (y ∷ rest) ≡ c ∷ cs)
@@ -56,80 +49,55 @@ second_char y rest text = go (chars (y ∷ rest)) refl
     go (c ∷ cs) is = (c, cs, is)
     go [] is = absurd (true≢false (sym text ∙ ap (λ (cs : List ℕ). scalars (45 ∷ cs) && bytes_eq (encode_utf8_all (45 ∷ cs)) (45 ∷ y ∷ rest)) is))
 
--- without `=` the whole is the name
-abbrev is_equals : ℕ → Bool
-is_equals x = x == 61
+-- the faults of an option
+abbrev pub option_fault : Option Known → Option Text → Held → Kinds
+option_fault option value held = long_fault top.rules false (option_map rule_by option) value held
 
-all_before : (xs : Text) → list_any is_equals xs ≡ false → before_first is_equals xs ≡ xs
-all_before [] none = refl
-all_before (x ∷ xs) none = go (is_equals x) none (all_before xs)
+-- clap reads the name of an option, and its value, as `option_in` and `value_in` do
+pub record IsRead (word : Text) : Type 0 where
+  pub faults : (rows : List Row) (pending : Pending) → flag_word_fault top.rules false (long_of word) word (held_of rows pending) ≡ option_fault (option_in word) (value_in word) (held_of rows pending)
+  pub is_long : (option : Known) → option_in word ≡ Some option
+      → (long_of word ≡ Some (name_in word, value_in word)) × (find (named (name_in word)) known ≡ Some option)
+
+-- `-x..`
+short_read : (y : ℕ) (rest : Text) → (y == 45) ≡ false → is_utf8 (45 ∷ y ∷ rest) ≡ true → IsRead (45 ∷ y ∷ rest)
+unfolding flags_fault
+short_read y rest no_dash text =
+    let word = 45 ∷ y ∷ rest in
+    let no_long : long_of word ≡ None = rw no_dash refl in
+    let short : short_of word ≡ Some (y ∷ rest) = rw no_dash refl in
+    let unknown : option_in word ≡ None = rw no_dash refl in
+    record {
+      faults = λ rows pending.
+          let held = held_of rows pending in
+          ap (λ (o : Option (Text × Option Text)). flag_word_fault top.rules false o word held) no_long
+          ∙ (ap (λ (o : Option Text). option_map_or (λ flags. bundle_fault top.rules false flags held) o []) short
+          ∙ (ap (λ (cs : List ℕ). bundle_step_fault top.rules false (slice_get cs 0) (y ∷ rest) 0 held (flags_fault top.rules false (length rest))) (second_char y rest text).2
+          ∙ sym (ap (λ option. option_fault option (value_in word) held) unknown)));
+      is_long = λ option is. absurd (true≢false (sym (ap is_some (sym unknown ∙ is))));
+    }
+
+-- `--x..`
+long_read : (rest : Text) → is_end (45 ∷ 45 ∷ rest) ≡ false → IsRead (45 ∷ 45 ∷ rest)
+long_read [] no_end = absurd (true≢false no_end)
+long_read (z ∷ rest) no_end =
+    let word = 45 ∷ 45 ∷ z ∷ rest in
+    record {
+      faults = λ rows pending. ap (λ rule. long_fault top.rules false rule (value_in word) (held_of rows pending)) (long_rule (name_in word));
+      is_long = λ option is. (refl, is);
+    }
+
+abbrev Meets : Text → Type 0
+Meets word = is_end word ≡ false → is_utf8 word ≡ true → IsRead word
+
+pub option_read : (word : Text) → is_end word ≡ false → is_option word ≡ true → is_utf8 word ≡ true → IsRead word
+option_read [] no_end option text = absurd (true≢false (sym option))
+option_read (x ∷ []) no_end option text = absurd (true≢false (sym option))
+option_read (x ∷ y ∷ rest) no_end option text = dashed (sym (eqb-true x 45 option)) no_end text
   where
-    go : (t : Bool) → (t || list_any is_equals xs) ≡ false → (list_any is_equals xs ≡ false → before_first is_equals xs ≡ xs)
-        → take (cond (not t) (1 + position_or_len is_equals xs) 0) (x ∷ xs) ≡ x ∷ xs
-    go true e rest = absurd (true≢false e)
-    go false e rest =
-        let more : 1 + position_or_len is_equals xs ≡ suc (position_or_len is_equals xs) = omega arith in
-        ap (λ n. take n (x ∷ xs)) more ∙ ap (λ ys. x ∷ ys) (rest e)
+    dashes : (t : Bool) → (y == 45) ≡ t → Meets (45 ∷ y ∷ rest)
+    dashes true e = subst (λ z. Meets (45 ∷ z ∷ rest)) (sym (eqb-true y 45 e)) (λ no_end text. long_read rest no_end)
+    dashes false e = λ no_end text. short_read y rest e text
 
-turned : (name text : Text) → bytes_eq text name ≡ false → bytes_eq name text ≡ false
-turned name text other = go (bytes_eq name text) refl
-  where
-    go : (t : Bool) → bytes_eq name text ≡ t → bytes_eq name text ≡ false
-    go false is = is
-    go true is =
-        let same : name ≡ text = (bytes_eq-Decides name text).0 is in
-        absurd (true≢false (sym ((bytes_eq-Decides text name).1 (sym same)) ∙ other))
-
-module _ (rows : List Row) (pending : Option (Text × List Text)) where
-  -- `-x..`
-  short_refused : (y : ℕ) (rest : Text) → (y == 45) ≡ false → is_end (45 ∷ y ∷ rest) ≡ false → is_utf8 (45 ∷ y ∷ rest) ≡ true → IsRefused (45 ∷ y ∷ rest) rows pending
-  unfolding flags_fault
-  short_refused y rest no_dash no_end text =
-      let word = 45 ∷ y ∷ rest in
-      let held = held_of rows pending in
-      let no_long : long_of word ≡ None = rw no_dash refl in
-      let short : short_of word ≡ Some (y ∷ rest) = rw no_dash refl in (
-        kinds.UnknownArgument,
-        ap (λ (t : Bool). if t then [] else flag_word_fault top.rules false (long_of word) word held) no_end
-            ∙ (ap (λ (o : Option (Text × Option Text)). flag_word_fault top.rules false o word held) no_long
-            ∙ (ap (λ (o : Option Text). option_map_or (λ flags. bundle_fault top.rules false flags held) o []) short
-            ∙ ap (λ (cs : List ℕ). bundle_step_fault top.rules false (slice_get cs 0) (y ∷ rest) 0 held (flags_fault top.rules false (length rest))) (second_char y rest text).2)),
-      )
-
-  -- a long option, by the tests of its name
-  abbrev long_by : Bool → Bool → Option Text → Kinds
-  long_by all quiet text = long_fault top.rules false (cond (all || false) (Some all_rule) (cond (quiet || false) (Some quiet_rule) None)) text (held_of rows pending)
-
-  abbrev long_named : Text → Option Text → Kinds
-  long_named name text = long_by (bytes_eq (codes "all") name) (bytes_eq (codes "quiet") name) text
-
-  with_value : (all quiet : Bool) (text : Text) → (kind : ErrorKind) × (long_by all quiet (Some text) ≡ kind ∷ [])
-  with_value true quiet text = (kinds.TooManyValues, refl)
-  with_value false true text = (kinds.TooManyValues, refl)
-  with_value false false text = (kinds.UnknownArgument, refl)
-
-  -- `--x..`
-  long_refused : (rest : Text) → is_end (45 ∷ 45 ∷ rest) ≡ false → IsOther (45 ∷ 45 ∷ rest) → IsRefused (45 ∷ 45 ∷ rest) rows pending
-  long_refused [] no_end other = absurd (true≢false no_end)
-  long_refused (z ∷ rest) no_end other = go (has_byte 61 (z ∷ rest)) refl
-    where
-      go : (t : Bool) → has_byte 61 (z ∷ rest) ≡ t
-          → (kind : ErrorKind) × (long_named (before_first is_equals (z ∷ rest)) (if t then Some (after_first is_equals (z ∷ rest)) else None) ≡ kind ∷ [])
-      go true is = with_value _ _ _
-      go false is = (
-        kinds.UnknownArgument,
-        ap (λ name. long_named name None) (all_before (z ∷ rest) is)
-            ∙ ap₂ (λ all quiet. long_by all quiet None) (turned (codes "all") (z ∷ rest) other.0) (turned (codes "quiet") (z ∷ rest) other.1),
-      )
-
-  abbrev MeetsOption : Text → Type 0
-  MeetsOption word = is_end word ≡ false → IsOther word → is_utf8 word ≡ true → IsRefused word rows pending
-
-  pub other_refused : (word : Text) → is_option word ≡ true → MeetsOption word
-  other_refused [] option = absurd (true≢false (sym option))
-  other_refused (x ∷ []) option = absurd (true≢false (sym option))
-  other_refused (x ∷ y ∷ rest) option = subst (λ z. MeetsOption (z ∷ y ∷ rest)) (sym (eqb-true x 45 option)) (go (y == 45) refl)
-    where
-      go : (t : Bool) → (y == 45) ≡ t → MeetsOption (45 ∷ y ∷ rest)
-      go true e = subst (λ z. MeetsOption (45 ∷ z ∷ rest)) (sym (eqb-true y 45 e)) (λ no_end other text. long_refused rest no_end other)
-      go false e = λ no_end other text. short_refused y rest e no_end text
+    dashed : 45 ≡ x → Meets (x ∷ y ∷ rest)
+    dashed same = subst (λ z. Meets (z ∷ y ∷ rest)) same (dashes (y == 45) refl)

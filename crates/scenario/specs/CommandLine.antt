@@ -1,20 +1,25 @@
 -- What the words of the command line ask for.
-use Rattle.std.specs.Prelude.{◌≡◌, ℕ, Bool, ◌==◌, ◌++◌, not, true, false, List, [], ◌∷◌, filter, fold, map, codes, string_bytes, Option, Some, None, option_and_then, option_map, Result, Ok, Err, if◌then◌else◌, Vec, String}
+use Rattle.std.specs.Prelude.{◌≡◌, ℕ, Bool, ◌==◌, ◌&&◌, ◌||◌, ◌++◌, not, true, false, List, [], ◌∷◌, drop, find, fold, map, codes, string_bytes, Option, Some, None, option_and_then, option_map, Result, Ok, Err, if◌then◌else◌, Vec, String}
 use Rattle.std.specs.declared.alloc.Global.{Global}
-use Rattle.std.specs.Option.{ok_or, option_map_or}
+use Rattle.std.specs.List.{after_first, before_first, list_any}
+use Rattle.std.specs.Option.{is_none, ok_or, option_map_or}
 use Rattle.std.specs.Str.{bytes_eq}
 use Rattle.std.specs.declared.io.ErrorKind.{ErrorKind}
 use Rattle.std.specs.declared.io.ErrorKind.TheVariants as kinds
 use Rattle.clap.specs.Words.{App, Row, Rule, fault_of, first_of, matches_of, new_app, new_rule, with_rule}
 use Rattle.clap.specs.Simple.{on_top}
 use Rattle.clap.specs.Walk.{is_empty}
-use Rattle.clap.specs.declared.builder.action.ArgAction.TheVariants.{SetTrue}
+use Rattle.clap.specs.declared.builder.action.ArgAction.{ArgAction}
+use Rattle.clap.specs.declared.builder.action.ArgAction.TheVariants.{Set, SetTrue}
 use Rattle.files.specs.declared.fault.Fault.TheVariants.{NoMemory}
 use Rattle.scenario.specs.declared.command_line.Ask.{Ask}
+use Rattle.scenario.specs.declared.command_line.Given.{Given}
 use Rattle.scenario.specs.declared.command_line.NoWords.{NoWords}
 use Rattle.scenario.specs.declared.command_line.NoWords.TheVariants as none
 use Rattle.watch_report.specs.declared.detail.Detail.{Detail}
 use Rattle.watch_report.specs.declared.detail.Detail.TheVariants.{Causes, Counts, Verdicts}
+use Rattle.watch_report.specs.declared.filter.Filter.{Filter}
+use Rattle.watch_report.specs.Filters.{filter_in}
 use Rattle.scenario.specs.declared.trouble.Trouble.{Trouble}
 use Rattle.scenario.specs.declared.trouble.Trouble.TheVariants.{Usage, Refused}
 use Rattle.scenario.specs.declared.commands.Command.{Command}
@@ -22,83 +27,153 @@ use Rattle.scenario.specs.declared.commands.Command.TheVariants.{Watch}
 use Rattle.scenario.specs.Command.{Ending, misused, no_memory}
 use Rattle.scenario.specs.Commands.{command_of}
 
--- a command, how much it prints of a trace, and the name of the file that it reads
+-- a command, how much it prints of a trace and of which verdicts, and the name of the file that it
+-- reads
 pub record Asked : Type 0 where
   pub command : Command
   pub detail : Detail
+  pub filter : Filter
   pub file : List ℕ
 
 abbrev pub ask_view : Ask → Asked
-ask_view ask = record { command = ask.command; detail = ask.detail; file = ask.file.now }
+ask_view ask = record {
+  command = ask.command;
+  detail = ask.detail;
+  filter = ask.filter;
+  file = ask.file.now;
+}
 
 -- ---- options
 
-abbrev pub has_options : Command → Bool
-has_options Watch = true
-has_options _ = false
+-- which flags were given, and the values of the other options
+pub record Options : Type 0 where
+  pub all : Bool
+  pub quiet : Bool
+  pub hart : Option (List ℕ)
+  pub page : Option (List ℕ)
+  pub kind : Option (List ℕ)
 
-abbrev pub watch_detail : List ℕ → Option Detail
-watch_detail option =
-    if bytes_eq option (codes "--all") then Some Verdicts
-    else if bytes_eq option (codes "--quiet") then Some Counts
-    else None
+abbrev pub options_view : Given → Options
+options_view given = record {
+  all = given.all;
+  quiet = given.quiet;
+  hart = option_map (λ text. text.now) given.hart;
+  page = option_map (λ text. text.now) given.page;
+  kind = option_map (λ text. text.now) given.kind;
+}
 
--- no option, or one of `watch`
-abbrev pub detail_of : List (List ℕ) → Command → Option Detail
-detail_of [] command = Some Causes
-detail_of (option ∷ []) command = if has_options command then watch_detail option else None
-detail_of _ command = None
+abbrev pub no_options : Options
+no_options = record { all = false; quiet = false; hart = None; page = None; kind = None }
 
-abbrev pub asked_as : Command → Detail → List ℕ → Asked
-asked_as command detail file = record { command = command; detail = detail; file = file }
+abbrev pub has_none : Options → Bool
+has_none options = not options.all && (not options.quiet
+    && (is_none options.hart && (is_none options.page && is_none options.kind)))
 
--- the word of a command, options and a file
-abbrev pub asked_by : List ℕ → List (List ℕ) → List ℕ → Option Asked
-asked_by word options file = option_and_then (λ command.
-    option_map (λ detail. asked_as command detail file) (detail_of options command))
-    (command_of word)
+-- the command takes options
+abbrev pub takes_options : Command → Bool
+takes_options Watch = true
+takes_options _ = false
 
--- ---- what clap takes
+-- `--all` and `--quiet` don't go together
+abbrev pub detail_of : Options → Option Detail
+detail_of options =
+    if options.all && options.quiet then None
+    else if options.all then Some Verdicts
+    else if options.quiet then Some Counts
+    else Some Causes
 
-abbrev pub value : List ℕ → Rule
-value name = record (new_rule name) { required = true }
+abbrev pub filter_of : Options → Option Filter
+filter_of options = filter_in options.hart options.page options.kind
 
-abbrev pub flag : List ℕ → Rule
-flag name = record (new_rule name) { long = Some name; action = Some SetTrue }
+abbrev pub asked_for : Command → Option Detail → Option Filter → List ℕ → Option Asked
+asked_for command (Some detail) (Some filter) file =
+    Some (record { command = command; detail = detail; filter = filter; file = file })
+asked_for command _ _ file = None
 
-abbrev pub without_help : App → App
-without_help app = on_top (λ top. record top { disable_help_flag = true }) app
+-- a command that takes the options, which are right
+abbrev pub asked_as : Command → Options → List ℕ → Option Asked
+asked_as command options file =
+    if has_none options || takes_options command
+    then asked_for command (detail_of options) (filter_of options) file else None
 
--- two values, COMMAND and FILE, which are both required, and two flags; `--help` is none
-abbrev pub svsim : App
-svsim = fold with_rule (without_help (new_app (codes "svsim")))
-    (value (codes "COMMAND") ∷ value (codes "FILE") ∷ flag (codes "all") ∷ flag (codes "quiet") ∷ [])
+-- by the word of a command, options and a file
+abbrev pub asked_by : List ℕ → Options → List ℕ → Option Asked
+asked_by word options file =
+    option_and_then (λ command. asked_as command options file) (command_of word)
+
+-- ---- by names
 
 -- the flag with this value was given
 abbrev pub is_set : Option (List ℕ) → Bool
 is_set value = option_map_or (λ text. bytes_eq text (codes "true")) value false
 
--- the options by their flags
-abbrev pub options_of : Bool → Bool → List (List ℕ)
-options_of all quiet =
-    (if all then codes "--all" ∷ [] else []) ++ (if quiet then codes "--quiet" ∷ [] else [])
+-- by the value of each name
+abbrev pub options_of : (List ℕ → Option (List ℕ)) → Options
+options_of named = record {
+  all = is_set (named (codes "all"));
+  quiet = is_set (named (codes "quiet"));
+  hart = named (codes "hart");
+  page = named (codes "page");
+  kind = named (codes "kind");
+}
 
 -- COMMAND, options and FILE
-abbrev pub asked_with : Option (List ℕ) → List (List ℕ) → Option (List ℕ) → Option Asked
+abbrev pub asked_with : Option (List ℕ) → Options → Option (List ℕ) → Option Asked
 asked_with (Some word) options (Some file) = asked_by word options file
 asked_with _ options _ = None
 
--- by the value of each name
 abbrev pub asked_of : (List ℕ → Option (List ℕ)) → Option Asked
-asked_of named = asked_with (named (codes "COMMAND"))
-    (options_of (is_set (named (codes "all"))) (is_set (named (codes "quiet"))))
-    (named (codes "FILE"))
+asked_of named = asked_with (named (codes "COMMAND")) (options_of named) (named (codes "FILE"))
+
+-- ---- the names
+
+-- of the values
+abbrev pub values : List (List ℕ)
+values = codes "COMMAND" ∷ codes "FILE" ∷ []
+
+-- a name of an option, which is a flag or takes a value
+pub record Known : Type 0 where
+  pub name : List ℕ
+  pub takes_value : Bool
+
+abbrev pub flag : List ℕ → Known
+flag name = record { name = name; takes_value = false }
+
+abbrev pub valued : List ℕ → Known
+valued name = record { name = name; takes_value = true }
+
+-- of the options
+abbrev pub known : List Known
+known = flag (codes "all") ∷ flag (codes "quiet") ∷ valued (codes "hart") ∷ valued (codes "page")
+    ∷ valued (codes "kind") ∷ []
+
+-- ---- what clap takes
+
+abbrev pub value_rule : List ℕ → Rule
+value_rule name = record (new_rule name) { required = true }
+
+abbrev pub action_of : Known → ArgAction
+action_of option = if option.takes_value then Set else SetTrue
+
+abbrev pub option_rule : Known → Rule
+option_rule option = record (new_rule option.name) {
+  long = Some option.name;
+  action = Some (action_of option);
+}
+
+abbrev pub without_help : App → App
+without_help app = on_top (λ top. record top { disable_help_flag = true }) app
+
+-- the values, which are required, and the options; `--help` is none
+abbrev pub svsim : App
+svsim = fold with_rule (without_help (new_app (codes "svsim")))
+    (map value_rule values ++ map option_rule known)
 
 abbrev pub asked_in_rows : List Row → Option Asked
 asked_in_rows rows = asked_of (λ name. first_of name rows)
 
 -- what is asked for by words of which clap refuses none; the first is the program's name
-abbrev pub asked : List (List ℕ) → Option Asked
+unfoldable pub asked : List (List ℕ) → Option Asked
 asked words =
     if is_empty (fault_of svsim words) then asked_in_rows (matches_of svsim words) else None
 
@@ -113,26 +188,94 @@ is_option _ = false
 abbrev pub is_end : List ℕ → Bool
 is_end word = bytes_eq word (codes "--")
 
--- the words before the first `--`, and those behind it
-abbrev pub before_end : List (List ℕ) → List (List ℕ)
-before_end [] = []
-before_end (word ∷ words) = if is_end word then [] else word ∷ before_end words
+-- `--` and what follows it
+abbrev pub is_long : List ℕ → Bool
+is_long (first ∷ second ∷ rest) = first == 45 && second == 45
+is_long _ = false
 
-abbrev pub behind_end : List (List ℕ) → List (List ℕ)
-behind_end [] = []
-behind_end (word ∷ words) = if is_end word then words else behind_end words
+abbrev pub is_equals : ℕ → Bool
+is_equals byte = byte == 61
 
--- options stand before `--`, and each other word is a value
-abbrev pub options : List (List ℕ) → List (List ℕ)
-options words = filter is_option (before_end words)
+-- NAME of `--NAME` and of `--NAME=VALUE`
+abbrev pub name_in : List ℕ → List ℕ
+name_in word = before_first is_equals (drop 2 word)
 
-abbrev pub values : List (List ℕ) → List (List ℕ)
-values words = filter (λ word. not (is_option word)) (before_end words) ++ behind_end words
+-- VALUE of `--NAME=VALUE`
+abbrev pub value_in : List ℕ → Option (List ℕ)
+value_in word =
+    if list_any is_equals (drop 2 word) then Some (after_first is_equals (drop 2 word)) else None
 
--- two values, the word of a command and FILE
-abbrev pub asked_of_values : List (List ℕ) → List (List ℕ) → Option Asked
-asked_of_values (word ∷ file ∷ []) options = asked_by word options file
-asked_of_values _ options = None
+-- the option that the word names
+abbrev pub option_in : List ℕ → Option Known
+option_in word =
+    if is_long word then find (λ option. bytes_eq option.name (name_in word)) known else None
+
+-- where a word stands: before `--`, behind the option whose value it is, or behind `--`
+pub data Place : Type 0 where
+  before_end : Place
+  behind_option : List ℕ → Place
+  behind_end : Place
+
+-- what the words so far give: names with their texts, the names of the values that are to come, and
+-- the place of the next word
+pub record Read : Type 0 where
+  pub given : List (List ℕ × List ℕ)
+  pub values : List (List ℕ)
+  pub place : Place
+
+abbrev pub is_given : List ℕ → List (List ℕ × List ℕ) → Bool
+is_given name given = list_any (λ g. bytes_eq g.0 name) given
+
+-- a name is given one text
+abbrev pub give : List ℕ → List ℕ → Read → Option Read
+give name text read =
+    if is_given name read.given then None
+    else Some (record read { given = read.given ++ (name, text) ∷ [] })
+
+-- a value has the next name
+abbrev pub give_value : List (List ℕ) → List ℕ → Read → Option Read
+give_value [] word read = None
+give_value (name ∷ names) word read = give name word (record read { values = names })
+
+-- a flag has no value, and its text is `true`; another option has its value in its word, or in the
+-- next word
+abbrev pub give_option : Bool → List ℕ → Option (List ℕ) → Read → Option Read
+give_option false name None read = give name (codes "true") read
+give_option false name (Some value) read = None
+give_option true name (Some value) read = give name value read
+give_option true name None read = Some (record read { place = behind_option name })
+
+abbrev pub give_known : Option Known → Option (List ℕ) → Read → Option Read
+give_known None value read = None
+give_known (Some option) value read = give_option option.takes_value option.name value read
+
+abbrev pub read_word : Place → List ℕ → Read → Option Read
+read_word before_end word read =
+    if is_end word then Some (record read { place = behind_end })
+    else if is_option word then give_known (option_in word) (value_in word) read
+    else give_value read.values word read
+read_word (behind_option name) word read =
+    if is_option word then None else give name word (record read { place = before_end })
+read_word behind_end word read = give_value read.values word read
+
+abbrev pub text_of : List (List ℕ × List ℕ) → List ℕ → Option (List ℕ)
+text_of given name = option_map (λ g. g.1) (find (λ g. bytes_eq g.0 name) given)
+
+-- no word is left
+abbrev pub asked_at_end : Place → List (List ℕ × List ℕ) → Option Asked
+asked_at_end (behind_option name) given = None
+asked_at_end _ given = asked_of (text_of given)
+
+-- what is asked for, once these words are read too
+abbrev pub asked_after : Read → List (List ℕ) → Option Asked
+asked_after read [] = asked_at_end read.place read.given
+asked_after read (word ∷ words) =
+    option_and_then (λ next. asked_after next words) (read_word read.place word read)
+
+-- what is asked for by the words behind the program's name
+abbrev pub asked_in_words : List (List ℕ) → Option Asked
+asked_in_words words =
+    asked_after (record { given = []; values = values; place = before_end }) words
 
 -- ---- what the code makes of them
 

@@ -13,3 +13,4 @@ pub mod CommandLine
 pub mod Shown
 pub mod Outcomes
 pub mod WorkedFiles
+pub mod WorkedWords

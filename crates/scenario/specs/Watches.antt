@@ -1,18 +1,26 @@
 -- How `watch` ends.
 use Rattle.std.specs.Prelude.{ℕ, Bool, List, Option, Result, Ok, Err, if◌then◌else◌}
-use Rattle.scenario.specs.Command.{Ending, Reports, done, no_memory, output_failed, unreadable, warned, wrong_line}
+use Rattle.scenario.specs.declared.trouble.Trouble.{Trouble}
+use Rattle.scenario.specs.Command.{Ending, Reports, done, ending_of, no_memory, output_failed, unreadable, warned, wrong_line}
 use Rattle.watch_report.specs.Ending.{Ends}
 use Rattle.watch_report.specs.Reports.{Told}
 use Rattle.watch_report.specs.declared.fault.ReportFault.{ReportFault}
 use Rattle.watch_report.specs.declared.fault.ReportFault.TheVariants as faults
 
--- how it ends, by what is reported of its trace
+-- how it ends, by what is reported of its trace: without a word where nobody reads the report any more
 abbrev pub ending_of_report : Result Bool ReportFault → Ending
 ending_of_report (Ok some) = if some then warned else done
 ending_of_report (Err faults.Unreadable) = unreadable
 ending_of_report (Err (faults.Line number fault some)) = wrong_line number fault some
 ending_of_report (Err faults.Output) = output_failed
+ending_of_report (Err (faults.BrokenPipe some)) = if some then warned else done
+ending_of_report (Err (faults.BrokenPipeAtLine number fault some)) = wrong_line number fault some
 ending_of_report (Err faults.NoMemory) = no_memory
+
+-- by whether there is a verdict, or by what is told on standard error
+abbrev pub ending_of_judged : Result Bool Trouble → Ending
+ending_of_judged (Ok some) = if some then warned else done
+ending_of_judged (Err trouble) = ending_of trouble
 
 -- how it ends on a trace of this text, of which this is told: one report gives the output, the status
 -- and the line on standard error

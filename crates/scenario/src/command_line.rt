@@ -8,7 +8,7 @@ ghost use Rattle.clap.specs.Words.{first_value, found_of};
 ghost use Rattle.scenario.specs.Command.{Reports, misused, no_memory};
 ghost use Rattle.scenario.specs.EndsOn.{EndsOn};
 ghost use Rattle.scenario.specs.Shown.{EndsUnasked, shown, shown_in};
-ghost use Rattle.scenario.specs.CommandLine.{AsksFor, ask_view, asked, asked_in, asked_of, detail_of, has_options, is_set, no_words_by, options_of};
+ghost use Rattle.scenario.specs.CommandLine.{AsksFor, ask_view, asked, asked_as, asked_in, asked_of, detail_of, filter_of, has_none, takes_options, is_set, no_words_by, options_of, options_view};
 
 use crate::commands::{Command, command_of};
 use crate::live_program::live_command;
@@ -28,7 +28,7 @@ use std::io::{Read, Write};
 use std::sync::Wait;
 use std::thread::Threads;
 use thiserror::Error;
-use watch_report::Detail;
+use watch_report::{Detail, Filter, read_filter};
 
 /// What the words ask for, and the file that it reads.
 #[derive(Clone, Copy, Debug)]
@@ -36,6 +36,8 @@ pub struct Ask<'a> {
     pub command: Command,
     /// What `watch` prints of its trace. No other command reads it.
     pub detail: Detail,
+    /// The verdicts of which `watch` prints it. No other command reads it.
+    pub filter: Filter,
     pub file: &'a str,
 }
 
@@ -68,31 +70,24 @@ impl From<io::Error> for NoWords {
     }
 }
 
+/// The flags that were given, and the values of the other options.
+#[derive(Clone, Copy)]
+struct Given<'a> {
+    all: bool,
+    quiet: bool,
+    hart: Option<&'a str>,
+    page: Option<&'a str>,
+    kind: Option<&'a str>,
+}
+
 /// Only `watch` has options.
-fn has_options(command: Command) -> bool
-    ensures { result ≡ has_options command }
+fn takes_options(command: Command) -> bool
+    ensures { result ≡ takes_options command }
 {
     match command {
         Command::Plain(_) => false,
         Command::Live => false,
         Command::Watch => true,
-    }
-}
-
-/// What is printed, by the flags that were given. Only `watch` has flags, and takes one of them.
-fn detail_of(all: bool, quiet: bool, command: Command) -> Option<Detail>
-    ensures { result ≡ detail_of (options_of all quiet) command }
-{
-    if !all && !quiet {
-        return Some(Detail::Causes);
-    }
-    if all && quiet || !has_options(command) {
-        return None;
-    }
-    if all {
-        Some(Detail::Verdicts)
-    } else {
-        Some(Detail::Counts)
     }
 }
 
@@ -106,7 +101,88 @@ fn is_set(flag: Option<&str>) -> bool
     }
 }
 
-/// What the matches ask for: a command that is known, its detail, and FILE.
+fn bytes_of<'a>(value: Option<&'a str>) -> Option<&'a [u8]>
+    ensures { option_map (λ text. text.now) result ≡ option_map (λ text. text.now) value.entry }
+{
+    match value {
+        Some(text) => Some(text.as_bytes()),
+        None => None,
+    }
+}
+
+impl<'a> Given<'a> {
+    fn new(matches: &ArgMatches<'a>) -> Given<'a>
+        ensures { options_view result ≡ options_of (first_value (found_of matches.now)) }
+    {
+        Given {
+            all: is_set(matches.get_str("all")),
+            quiet: is_set(matches.get_str("quiet")),
+            hart: matches.get_str("hart"),
+            page: matches.get_str("page"),
+            kind: matches.get_str("kind"),
+        }
+    }
+
+    fn has_none(&self) -> bool
+        ensures { result ≡ has_none (options_view self.now) }
+    {
+        !self.all
+            && !self.quiet
+            && self.hart.is_none()
+            && self.page.is_none()
+            && self.kind.is_none()
+    }
+
+    /// What is printed. `--all` and `--quiet` don't go together.
+    fn detail(&self) -> Option<Detail>
+        ensures { result ≡ detail_of (options_view self.now) }
+    {
+        if self.all && self.quiet {
+            return None;
+        }
+        if self.all {
+            return Some(Detail::Verdicts);
+        }
+        if self.quiet {
+            return Some(Detail::Counts);
+        }
+        Some(Detail::Causes)
+    }
+
+    fn filter(&self) -> Option<Filter>
+        ensures { result ≡ filter_of (options_view self.now) }
+    {
+        read_filter(
+            bytes_of(self.hart),
+            bytes_of(self.page),
+            bytes_of(self.kind),
+        )
+    }
+}
+
+/// The command on a file, with options that it takes and that are right.
+fn asked_as<'a>(command: Command, options: &Given<'a>, file: &'a str) -> Option<Ask<'a>>
+    ensures { option_map ask_view result
+        ≡ asked_as command (options_view options.now) file.entry.now }
+{
+    if !options.has_none() && !takes_options(command) {
+        return None;
+    }
+    let Some(detail) = options.detail() else {
+        return None;
+    };
+    let Some(filter) = options.filter() else {
+        return None;
+    };
+    Some(Ask {
+        command,
+        detail,
+        filter,
+        file,
+    })
+}
+
+/// What the matches ask for: a command that is known, its options, and FILE.
 fn asked_of<'a>(matches: &ArgMatches<'a>) -> Option<Ask<'a>>
     ensures { option_map ask_view result ≡ asked_of (first_value (found_of matches.now)) }
 {
@@ -119,21 +195,13 @@ fn asked_of<'a>(matches: &ArgMatches<'a>) -> Option<Ask<'a>>
     let Some(command) = command_of(word) else {
         return None;
     };
-    let all = is_set(matches.get_str("all"));
-    let quiet = is_set(matches.get_str("quiet"));
-    let Some(detail) = detail_of(all, quiet, command) else {
-        return None;
-    };
-    Some(Ask {
-        command,
-        detail,
-        file,
-    })
+    let options = Given::new(matches);
+    asked_as(command, &options, file)
 }
 
 /// What the words ask for, if they ask for a command that is known and a FILE, with options that the
 /// command takes.
-#[tactic(auto, using(crate::proofs::WordLemmas::asked_found))]
+#[tactic(auto, using(crate::proofs::WordLemmas::asked_found), unfolding(crate::specs::CommandLine::asked))]
 fn look_up<'a>(alloc: Global, words: &'a [String]) -> Result<Option<Ask<'a>>, AllocError>
     ensures { IfOk result (λ ask. option_map ask_view ask ≡ asked (map string_bytes words.now)) }
 {
@@ -150,8 +218,9 @@ fn look_up<'a>(alloc: Global, words: &'a [String]) -> Result<Option<Ask<'a>>, Al
 }
 
 /// What the words ask for, of which the first is the program's name: a command that is known and a
-/// FILE, with no option, or with `--all` or `--quiet` of `watch`. `--` ends the options. Refused with
-/// `Usage` if they ask for nothing, and with `NoMemory` if memory runs out.
+/// FILE, with no option, or with options of `watch`: `--all` or `--quiet`, and `--hart H`, `--page VA`
+/// and `--kind KIND`. `--` ends the options. Refused with `Usage` if they ask for nothing, and with
+/// `NoMemory` if memory runs out.
 pub fn ask_of<'a>(alloc: Global, words: &'a [String]) -> Result<Ask<'a>, Trouble>
     ensures { AsksFor (map string_bytes words.now) result }
 {
@@ -173,8 +242,9 @@ fn on_file<T: Threads + Wait + Sync, R: Read + Drop, W: Write, E: Write, G: Gate
     err: &mut E,
     gate: &G,
 ) -> u8
-    ensures { EndsOn R.remaining ask.entry.command ask.entry.detail ask.entry.file.now input result
-        (W.contents out.old) (W.contents out.new) (E.contents err.old) (E.contents err.new) }
+    ensures { EndsOn R.remaining ask.entry.command ask.entry.detail ask.entry.filter
+        ask.entry.file.now input result (W.contents out.old) (W.contents out.new)
+        (E.contents err.old) (E.contents err.new) }
 {
     let Some(mut reader) = input else {
         return report(alloc, ask.file, &Trouble::Unreadable, err);
@@ -182,7 +252,9 @@ fn on_file<T: Threads + Wait + Sync, R: Read + Drop, W: Write, E: Write, G: Gate
     match ask.command {
         Command::Plain(which) => command(alloc, which, ask.file, &mut reader, out, err),
         Command::Live => live_command(rt, alloc, ask.file, &mut reader, out, err, gate),
-        Command::Watch => watch_command_with(alloc, ask.detail, ask.file, reader, out, err),
+        Command::Watch => {
+            watch_command_with(alloc, ask.detail, ask.filter, ask.file, reader, out, err)
+        },
     }
 }
 
@@ -230,8 +302,8 @@ pub fn answer_words<
     requires { O.IsAlwaysCallable reader_of }
     ensures asked { IfOk (asked_in words) (λ ask. ((input : Option R)
         × FnOnceReturnsAt O.FnOnce reader_of ask.file input
-        × EndsOn R.remaining ask.command ask.detail ask.file input result (W.contents out.old)
-        (W.contents out.new) (E.contents err.old) (E.contents err.new))
+        × EndsOn R.remaining ask.command ask.detail ask.filter ask.file input result
+        (W.contents out.old) (W.contents out.new) (E.contents err.old) (E.contents err.new))
         ⊎ (Reports [] no_memory result (E.contents err.old) (E.contents err.new)
         × Keeps (W.contents out.old) (W.contents out.new))) }
     ensures unasked { IfErr (asked_in words) (λ ending. EndsUnasked (shown_in words) ending result

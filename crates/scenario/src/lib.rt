@@ -20,6 +20,7 @@ mod outcome;
 mod output;
 mod print_laws;
 mod program;
+mod progress;
 mod shown;
 mod stale_items;
 mod stale_texts;
@@ -43,6 +44,7 @@ pub use live_program::live_command;
 pub use live_texts::live_lines;
 pub use print_laws::{one_print, worked_prints};
 pub use program::command;
+pub use progress::Progress;
 pub use shown::{Shown, shown_of};
 pub use spaces::limits_are_checked;
 pub use stale_items::stale_lines;
@@ -52,5 +54,7 @@ pub use system::start;
 pub use texts::{run_text, walk_text};
 pub use trouble::Trouble;
 pub use watch_program::{watch_command, watch_command_with};
-pub use watch_report::Detail;
-pub use word_laws::{words_are_read, worked_words};
+pub use watch_report::{Detail, Filter, Kind, read_filter};
+pub use word_laws::{
+    words_are_read, worked_filters, worked_options, worked_refusals, worked_texts, worked_words,
+};

@@ -90,9 +90,13 @@ counts at the end. TRACE is a file, or - for standard input.
 
   svsim watch examples/watch/left-out-hart.trace
 
-  --all    prints a line for each verdict in place of the causes
-  --quiet  prints the last line alone, which counts the verdicts
+  --all        prints a line for each verdict in place of the causes
+  --quiet      prints the last line alone, which counts the verdicts
+  --hart H     takes the verdicts of one hart alone, 0 to 63
+  --page VA    takes those of pages that VA lies in, in hexadecimal without 0x
+  --kind KIND  takes those of one kind: claim, free, reuse, use, or kernel-claim and so on
 
+What is counted, and the status, is of the verdicts that are taken.
 docs/YOUR-KERNEL.md tells how to get a trace. Status 0: no verdict. 1: some. 3: a wrong line, and no verdict before it.
 ";
 

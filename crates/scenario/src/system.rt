@@ -1,8 +1,9 @@
 //! The program as a system starts it.
 use crate::command_line::{NoWords, answer_words};
+use crate::progress::Progress;
 use harts::OpenGate;
 use std::fs::File;
-use std::io::Read;
+use std::io::{IsTerminal, Read};
 use std::rt::{Env, Stdin};
 use std::sync::Wait;
 use std::thread::Threads;
@@ -41,18 +42,11 @@ fn given_words<R: Env + AllocGlobal>(rt: &R) -> Result<Vec<String>, NoWords> {
     Ok(words.collect(rt.alloc())?)
 }
 
-/// Whether a word is an option of `watch`, or ends the options.
-fn is_option(word: &str) -> bool {
-    word == "--all" || word == "--quiet" || word == "--"
-}
-
-/// Whether `watch` is the first of the words after the program's name but for its options.
+/// Whether `watch` is one of the words after the program's name. Of words that ask for another command on
+/// the file `-` it is none, since no other has options.
 fn is_of_trace(words: &Result<Vec<String>, NoWords>) -> bool {
     match words {
-        Ok(words) => {
-            let word = words.iter().skip(1).find(|word| !is_option(word.as_str()));
-            word.is_some_and(|word| word.as_str() == "watch")
-        }
+        Ok(words) => words.iter().skip(1).any(|word| word.as_str() == "watch"),
         Err(_) => false,
     }
 }
@@ -66,11 +60,21 @@ pub fn start<T: Threads + Wait + Sync>(rt: &HostRuntime, threads: &T) -> u8 {
     let mut err = rt.stderr();
     let words = given_words(rt);
     let of_trace = is_of_trace(&words);
+    let waits = of_trace && out.is_terminal() && err.is_terminal();
     answer_words(
         threads,
         rt.alloc(),
         words,
-        |name| open(rt, name, of_trace),
+        |name| {
+            let source = open(rt, name, of_trace)?;
+            let is_typed = matches!(source, Source::Input(_)) && rt.stdin().is_terminal();
+            let terminal = if waits && !is_typed {
+                Some(rt.stderr())
+            } else {
+                None
+            };
+            Some(Progress::new(source, rt, terminal))
+        },
         &mut out,
         &mut err,
         &OpenGate,

@@ -1,4 +1,5 @@
-//! The command `watch` of `svsim` alone: `svsim_watch [--all|--quiet] TRACE`.
+//! The command `watch` of `svsim` alone: `svsim_watch [--all|--quiet] [--hart H]
+//! [--page VA] [--kind KIND] TRACE`.
 //!
 //! The wrapper `./svsim` builds it without a proof, which takes a third of the time of the whole
 //! program. What it writes, and the statuses 0, 1 and 3, are those of `svsim watch`. At other words,
@@ -8,7 +9,7 @@
 
 use std::process::ExitCode;
 use std::{env, fs};
-use watch_report::{Detail, Filter, ReportFault, report_trace};
+use watch_report::{Detail, Filter, ReportFault, read_filter, report_trace};
 
 /// No verdict.
 const DONE: u8 = 0;
@@ -22,42 +23,57 @@ const REFUSED: u8 = 3;
 /// The whole program has to answer.
 const NO_ANSWER: u8 = 6;
 
-/// What an option asks for.
-fn detail_of(option: &str) -> Option<Detail> {
-    if option == "--all" {
-        Some(Detail::Verdicts)
-    } else if option == "--quiet" {
-        Some(Detail::Counts)
+fn has(words: &[String], option: &str) -> bool {
+    words.iter().any(|word| word.as_str() == option)
+}
+
+/// The word behind an option, if it is not the last one.
+fn word_of<'a>(words: &'a [String], option: &str) -> Option<&'a [u8]> {
+    let at = words.iter().position(|word| word.as_str() == option)?;
+    if at + 2 < words.len() {
+        Some(words[at + 1].as_bytes())
     } else {
         None
     }
 }
 
-/// What the words ask for, and of which trace.
-fn asked(words: &[String]) -> Option<(Detail, &str)> {
-    let (detail, file) = match words.len() {
-        2 => (Detail::Causes, words[1].as_str()),
-        3 => (detail_of(words[1].as_str())?, words[2].as_str()),
-        _ => return None,
+/// What the words ask for, and of which trace: each option once, and the trace behind all.
+fn asked(words: &[String]) -> Option<(Detail, Filter, &str)> {
+    let file = words.last()?.as_str();
+    let hart = word_of(words, "--hart");
+    let page = word_of(words, "--page");
+    let kind = word_of(words, "--kind");
+    let pairs = usize::from(hart.is_some())
+        + usize::from(page.is_some())
+        + usize::from(kind.is_some());
+    let (detail, alone) = match (has(words, "--all"), has(words, "--quiet")) {
+        (false, false) => (Detail::Causes, 0),
+        (true, false) => (Detail::Verdicts, 1),
+        (false, true) => (Detail::Counts, 1),
+        (true, true) => return None,
     };
-    if file.starts_with('-') {
-        None
+    if words.len() == 2 + alone + 2 * pairs && !file.starts_with('-') {
+        Some((detail, read_filter(hart, page, kind)?, file))
     } else {
-        Some((detail, file))
+        None
     }
 }
 
 /// Reports the trace that the words name, and answers the status.
 fn answer(rt: &HostRuntime) -> Option<u8> {
     let words: Vec<String> = env::args(rt).ok()?.collect(rt.alloc()).ok()?;
-    let (detail, file) = asked(words.as_slice())?;
+    let (detail, filter, file) = asked(words.as_slice())?;
     let trace = fs::open(rt, file).ok()?;
-    let all = Filter::default();
-    match report_trace(rt.alloc(), detail, all, file, trace, &mut rt.stdout()) {
-        Ok(false) => Some(DONE),
-        Ok(true) => Some(WARNED),
+    match report_trace(rt.alloc(), detail, filter, file, trace, &mut rt.stdout()) {
+        Ok(false) | Err(ReportFault::BrokenPipe { warned: false }) => Some(DONE),
+        Ok(true) | Err(ReportFault::BrokenPipe { warned: true }) => Some(WARNED),
         Err(
             ReportFault::Line {
+                number,
+                fault,
+                warned,
+            }
+            | ReportFault::BrokenPipeAtLine {
                 number,
                 fault,
                 warned,

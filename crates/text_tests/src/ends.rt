@@ -63,6 +63,8 @@ impl Read for Pieces<'_> {
 pub enum AtEnd {
     Fails,
     TakesNothing,
+    /// Nobody reads it any more.
+    BreaksPipe,
 }
 
 /// A writer that takes at most `step` bytes a write, and `room` bytes in all.
@@ -99,8 +101,12 @@ impl Write for Narrow {
     fn write(&mut self, buf: &[u8]) -> io::Result<usize> {
         let left = self.room.saturating_sub(self.held.len());
         let count = self.step.min(left).min(buf.len());
-        if count == 0 && self.at_end == AtEnd::Fails {
-            return Err(io::Error::from(ErrorKind::Other));
+        if count == 0 {
+            match self.at_end {
+                AtEnd::Fails => return Err(io::Error::from(ErrorKind::Other)),
+                AtEnd::BreaksPipe => return Err(io::Error::from(ErrorKind::BrokenPipe)),
+                AtEnd::TakesNothing => {}
+            }
         }
         self.held.extend_from_slice(&buf[..count])?;
         Ok(count)

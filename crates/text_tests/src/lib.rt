@@ -5,6 +5,8 @@
 #[cfg(test)]
 mod asserting;
 #[cfg(test)]
+mod broken_pipes;
+#[cfg(test)]
 mod ends;
 #[cfg(test)]
 mod gates;
@@ -28,6 +30,8 @@ mod pictures;
 mod places;
 #[cfg(test)]
 mod printed;
+#[cfg(test)]
+mod progress;
 #[cfg(test)]
 mod readers_and_writers;
 #[cfg(test)]

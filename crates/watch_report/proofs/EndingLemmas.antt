@@ -1,22 +1,25 @@
 -- How the report of a trace ends.
-use Rattle.std.proofs.Common.{◌≡◌, inl, inr, ℕ, ◌+◌, ◌-◌, Bool, true, false, List, [], ◌∷◌, ◌++◌, length, drop, Option, Some, None, IfSome, is_none, Result, Ok, Err, get_or, cond, nat_lt, option_map, refl, sym, ap, subst, ◌∙◌, arith, append_assoc, append-nil, length-append}
+use Rattle.std.proofs.Common.{◌≡◌, inl, inr, ℕ, ◌+◌, ◌-◌, Bool, true, false, List, [], ◌∷◌, ◌++◌, length, drop, Option, Some, None, IfSome, is_none, Result, Ok, Err, IfOk, IfErr, get_or, cond, nat_lt, option_map, refl, sym, ap, subst, ◌∙◌, arith, append_assoc, append-nil, length-append}
 use Rattle.std.specs.List.{position_or_len}
 use Rattle.std.proofs.KnownBytes.{Appends-nil}
 use Rattle.std.proofs.lemmas.Bool.{false≢true}
 use Rattle.std.proofs.lemmas.Bool.Decides.{nat_tests}
 use Rattle.std.proofs.lemmas.List.{get_or_at}
+use Rattle.pte.specs.declared.scheme.Scheme.{Scheme}
 use Rattle.watch_report.specs.declared.header.Header.{Header}
+use Rattle.watch_report.specs.declared.line_fault.LineFault.{LineFault}
 use Rattle.watch_report.specs.LineFaults.{fault_of, header_fault}
 use Rattle.watch_report.specs.TraceLines.{LineText, line_in}
 use Rattle.watch_report.specs.declared.fault.ReportFault.{ReportFault}
 use Rattle.watch_report.specs.declared.fault.ReportFault.TheVariants as reported
 use Rattle.watch_report.specs.declared.reading_fault.ReadingFault.{ReadingFault}
-use Rattle.watch_report.specs.declared.reading_fault.ReadingFault.TheVariants.{Unreadable, Output, NoMemory}
+use Rattle.watch_report.specs.declared.reading_fault.ReadingFault.TheVariants.{Unreadable, Output, BrokenPipe, BrokenPipeWarned, NoMemory}
 use Rattle.watch_report.specs.declared.reading.Reading.{Reading}
-use Rattle.watch_report.specs.Ending.{Ends, EndsBy, IsLine, Tells}
+use Rattle.watch_report.specs.Ending.{Ends, EndsBy, IsAtLine, Tells, report_at}
 use Rattle.watch_report.specs.Output.{WritesAll, WritesFront}
 use Rattle.watch_report.specs.Reading.{FailsAtEnd, FailsAtLine, IsReadFault, Stands, report_fault_of}
-use Rattle.watch_report.specs.TraceText.{Noted, body_of, faulty_line, has_no_form, header_of, lines_of, records_of, said_first, with_record}
+use Rattle.watch_report.specs.TraceText.{Noted, body_of, fault_in, faulty_line, has_no_form, header_of, lines_of, records_of, said_first, trace_of, with_record}
+use Rattle.watch_report.specs.VerdictLines.{GivesVerdict}
 use Rattle.watch_report.specs.Reports.{Told, VerdictText, WholeText, told_text}
 use Rattle.watch_report.proofs.ReadLemmas.{AreTaken, IsText, all_formed, more_taken, records_of_all, records_of_front, stops}
 
@@ -37,6 +40,8 @@ pub ends_unread : (told : Told) (fault : ReadingFault) (header : Header) (read t
     → WritesAll (VerdictText told header.scheme records) start out → EndsBy told (Ok header) (read ++ tail) (Err (report_fault_of fault)) start out
 ends_unread told Unreadable header read tail records start out is at written = ends_within told header read tail records start out at written
 ends_unread told Output header read tail records start out is at written = absurd is
+ends_unread told BrokenPipe header read tail records start out is at written = absurd is
+ends_unread told BrokenPipeWarned header read tail records start out is at written = absurd is
 ends_unread told NoMemory header read tail records start out is at written = ends_within told header read tail records start out at written
 
 faultless : (header : Header) (lines : List (List ℕ)) (records : List Noted) → AreTaken header lines records → faulty_line (Ok header) lines ≡ None
@@ -62,6 +67,19 @@ ends_at_line told Output header number read tail line records start out e at fai
       append_assoc read (line ∷ []) tail,
       subst (λ (r : List Noted). WritesFront (VerdictText told header.scheme r) start out) (sym (records_of_all header (read ++ line ∷ []) _ (more_taken header read number line records e at fails.0))) fails.1,
     )
+ends_at_line told BrokenPipe header number read tail line records start out e at fails = absurd fails
+ends_at_line told BrokenPipeWarned header number read tail line records start out e at fails =
+    let front : List (List ℕ) = read ++ line ∷ [] in
+    let taken = more_taken header read number line records e at fails.0 in
+    let all = sym (records_of_all header front _ taken) in
+    inl (
+      front,
+      tail,
+      append_assoc read (line ∷ []) tail,
+      faultless header front _ taken,
+      subst (λ (r : List Noted). GivesVerdict told.filter header.scheme (trace_of r)) all fails.1,
+      subst (λ (r : List Noted). WritesFront (VerdictText told header.scheme r) start out) all fails.2,
+    )
 ends_at_line told NoMemory header number read tail line records start out e at fails = ends_within told header read (line ∷ tail) records start out at fails
 
 -- ---- at a line that has no form
@@ -83,34 +101,63 @@ front_told : (header : Header) (read tail : List (List ℕ)) (line : List ℕ) (
 front_told header read tail line records Says at none says =
     subst Says (sym (records_of_front header read (line ∷ tail) records at (stops (has_no_form header) line tail none))) says
 
-pub ends_at_fault : (told : Told) (r : ReportFault) (header : Header) (number : ℕ) (read tail : List (List ℕ)) (line : List ℕ) (records : List Noted) (some : Bool) (start out : Option (List ℕ)) → number ≡ length read + 2
-    → AreTaken header read records → has_no_form header line ≡ true → IsLine number (fault_of header line) some r → WritesAll (WholeText told (Some number) header.scheme records some) start out
-    → EndsBy told (Ok header) (read ++ line ∷ tail) (Err r) start out
-ends_at_fault told reported.Unreadable header number read tail line records some start out e at none is written = absurd is
-ends_at_fault told reported.Output header number read tail line records some start out e at none is written = absurd is
-ends_at_fault told reported.NoMemory header number read tail line records some start out e at none is written = absurd is
-ends_at_fault told (reported.Line n fault warned) header number read tail line records some start out e at none is written =
-    let place : n - 2 ≡ length read = omega (arith, e, is.0) in (
-      faulty_at header read tail line records at none ∙ ap Some (sym (is.0 ∙ e)),
-      ap (fault_of header) (line_at read tail line (n - 2) place) ∙ is.1,
-      subst (λ (wrong : Option ℕ). WritesAll (WholeText told wrong header.scheme (records_of header (read ++ line ∷ tail)) warned) start out)
-          (sym (faulty_at header read tail line records at none ∙ ap Some (sym e)))
-          (front_told header read tail line records (λ (r : List Noted). WritesAll (WholeText told (Some number) header.scheme r warned) start out) at none
-          (subst (λ (b : Bool). WritesAll (WholeText told (Some number) header.scheme records b) start out) (sym is.2) written)),
-    )
+-- what is said of the last lines there is said of these lines
+wrong_told : (header : Header) (number : ℕ) (read tail : List (List ℕ)) (line : List ℕ) (records : List Noted) (Says : Option ℕ → List Noted → Type 0) → number ≡ length read + 2 → AreTaken header read records
+    → has_no_form header line ≡ true → Says (Some number) records → Says (faulty_line (Ok header) (read ++ line ∷ tail)) (records_of header (read ++ line ∷ tail))
+wrong_told header number read tail line records Says e at none says =
+    subst (λ (wrong : Option ℕ). Says wrong (records_of header (read ++ line ∷ tail))) (sym (faulty_at header read tail line records at none ∙ ap Some (sym e)))
+    (front_told header read tail line records (Says (Some number)) at none says)
 
--- and the last line was not written
-pub ends_unfinished : (told : Told) (fault : ReadingFault) (header : Header) (number : ℕ) (read tail : List (List ℕ)) (line : List ℕ) (records : List Noted) (start out : Option (List ℕ)) → number ≡ length read + 2
-    → AreTaken header read records → has_no_form header line ≡ true → FailsAtEnd fault told (Some number) header.scheme records start out → EndsBy told (Ok header) (read ++ line ∷ tail) (Err (report_fault_of fault)) start out
-ends_unfinished told Unreadable header number read tail line records start out e at none fails = absurd fails
-ends_unfinished told Output header number read tail line records start out e at none fails =
-    inr (
-      fails.0,
-      subst (λ (wrong : Option ℕ). WritesFront (WholeText told wrong header.scheme (records_of header (read ++ line ∷ tail)) fails.0) start out)
-          (sym (faulty_at header read tail line records at none ∙ ap Some (sym e)))
-          (front_told header read tail line records (λ (r : List Noted). WritesFront (WholeText told (Some number) header.scheme r fails.0) start out) at none fails.1),
-    )
-ends_unfinished told NoMemory header number read tail line records start out e at none fails = ends_within told header read (line ∷ tail) records start out at fails
+fault_there : (header : Header) (number : ℕ) (read tail : List (List ℕ)) (line : List ℕ) (fault : LineFault) → number ≡ length read + 2 → fault_of header line ≡ Some fault
+    → fault_in (Ok header) (read ++ line ∷ tail) number ≡ Some fault
+fault_there header number read tail line fault e is =
+    ap (fault_of header) (line_at read tail line (number - 2) (omega (arith, e))) ∙ is
+
+pub failed_end : (told : Told) (wrong : Option ℕ) (fault : ReadingFault) (old header : Header) (records : List Noted) (start out : Option (List ℕ)) → old ≡ header → FailsAtEnd fault told wrong old.scheme records start out
+    → FailsAtEnd fault told wrong header.scheme records start out
+failed_end told wrong fault old header records start out e fails = subst (λ (h : Header). FailsAtEnd fault told wrong h.scheme records start out) e fails
+
+pub written_end : (told : Told) (wrong : Option ℕ) (some : Bool) (old header : Header) (records : List Noted) (start out : Option (List ℕ)) → old ≡ header → WritesAll (WholeText told wrong old.scheme records some) start out
+    → WritesAll (WholeText told wrong header.scheme records some) start out
+written_end told wrong some old header records start out e written = subst (λ (h : Header). WritesAll (WholeText told wrong h.scheme records some) start out) e written
+
+-- how the last lines were written
+abbrev pub Finishes : Told → Option ℕ → Scheme → List Noted → Option (List ℕ) → Option (List ℕ) → Result Bool ReadingFault → Type 0
+Finishes told wrong scheme records start out (Ok some) = WritesAll (WholeText told wrong scheme records some) start out
+Finishes told wrong scheme records start out (Err fault) = FailsAtEnd fault told wrong scheme records start out
+
+pub finishes : (told : Told) (wrong : Option ℕ) (old header : Header) (records : List Noted) (start out : Option (List ℕ)) (finished : Result Bool ReadingFault) → old ≡ header
+    → IfOk finished (λ some. WritesAll (WholeText told wrong old.scheme records some) start out) → IfErr finished (λ fault. FailsAtEnd fault told wrong old.scheme records start out)
+    → Finishes told wrong header.scheme records start out finished
+finishes told wrong old header records start out (Ok some) e written fails = written_end told wrong some old header records start out e written
+finishes told wrong old header records start out (Err fault) e written fails = failed_end told wrong fault old header records start out e fails
+
+pub ends_at_fault : (told : Told) (finished : Result Bool ReadingFault) (r : ReportFault) (header : Header) (number : ℕ) (read tail : List (List ℕ)) (line : List ℕ) (records : List Noted) (start out : Option (List ℕ))
+    → number ≡ length read + 2 → AreTaken header read records → has_no_form header line ≡ true → IsAtLine number (fault_of header line) finished r
+    → Finishes told (Some number) header.scheme records start out finished → EndsBy told (Ok header) (read ++ line ∷ tail) (Err r) start out
+ends_at_fault told finished r header number read tail line records start out e at none is does =
+    subst (λ (f : ReportFault). EndsBy told (Ok header) (read ++ line ∷ tail) (Err f) start out) (sym is.2) (by finished does)
+  where
+    faulty : faulty_line (Ok header) (read ++ line ∷ tail) ≡ Some number
+    faulty = faulty_at header read tail line records at none ∙ ap Some (sym e)
+
+    there : fault_in (Ok header) (read ++ line ∷ tail) number ≡ Some is.0
+    there = fault_there header number read tail line is.0 e is.1
+
+    said : (Says : Option ℕ → List Noted → Type 0) → Says (Some number) records → Says (faulty_line (Ok header) (read ++ line ∷ tail)) (records_of header (read ++ line ∷ tail))
+    said Says says = wrong_told header number read tail line records Says e at none says
+
+    by : (done : Result Bool ReadingFault) → Finishes told (Some number) header.scheme records start out done → EndsBy told (Ok header) (read ++ line ∷ tail) (Err (report_at number is.0 done)) start out
+    by (Ok some) written =
+        (faulty, there, said (λ (wrong : Option ℕ) (r : List Noted). WritesAll (WholeText told wrong header.scheme r some) start out) written)
+    by (Err BrokenPipe) fails =
+        (faulty, there, said (λ (wrong : Option ℕ) (r : List Noted). WritesFront (WholeText told wrong header.scheme r false) start out) fails)
+    by (Err BrokenPipeWarned) fails =
+        (faulty, there, said (λ (wrong : Option ℕ) (r : List Noted). WritesFront (WholeText told wrong header.scheme r true) start out) fails)
+    by (Err Unreadable) fails = absurd fails
+    by (Err Output) fails =
+        inr (fails.0, said (λ (wrong : Option ℕ) (r : List Noted). WritesFront (WholeText told wrong header.scheme r fails.0) start out) fails.1)
+    by (Err NoMemory) fails = ends_within told header read (line ∷ tail) records start out at fails
 
 -- ---- at the end
 
@@ -124,6 +171,10 @@ pub ends_undone : (told : Told) (fault : ReadingFault) (header : Header) (lines 
 ends_undone told Unreadable header lines records start out at fails = absurd fails
 ends_undone told Output header lines records start out at fails =
     inr (fails.0, all_told header lines records (λ (wrong : Option ℕ) (r : List Noted). WritesFront (WholeText told wrong header.scheme r fails.0) start out) at fails.1)
+ends_undone told BrokenPipe header lines records start out at fails =
+    (faultless header lines records at, all_told header lines records (λ (wrong : Option ℕ) (r : List Noted). WritesFront (WholeText told wrong header.scheme r false) start out) at fails)
+ends_undone told BrokenPipeWarned header lines records start out at fails =
+    inr (faultless header lines records at, all_told header lines records (λ (wrong : Option ℕ) (r : List Noted). WritesFront (WholeText told wrong header.scheme r true) start out) at fails)
 ends_undone told NoMemory header lines records start out at fails =
     subst (λ (l : List (List ℕ)). EndsBy told (Ok header) l (Err reported.NoMemory) start out) (append-nil lines) (ends_within told header lines [] records start out at fails)
 
@@ -144,16 +195,9 @@ pub failed_line : (told : Told) (fault : ReadingFault) (old header : Header) (nu
 failed_line told fault old header number given line records start out e f fails =
     subst (λ (h : Header). FailsAtLine fault told h number line records start out) e (subst (λ (l : List ℕ). FailsAtLine fault told old number l records start out) f fails)
 
-pub failed_end : (told : Told) (wrong : Option ℕ) (fault : ReadingFault) (old header : Header) (records : List Noted) (start out : Option (List ℕ)) → old ≡ header → FailsAtEnd fault told wrong old.scheme records start out
-    → FailsAtEnd fault told wrong header.scheme records start out
-failed_end told wrong fault old header records start out e fails = subst (λ (h : Header). FailsAtEnd fault told wrong h.scheme records start out) e fails
-
-pub written_end : (told : Told) (wrong : Option ℕ) (some : Bool) (old header : Header) (records : List Noted) (start out : Option (List ℕ)) → old ≡ header → WritesAll (WholeText told wrong old.scheme records some) start out
-    → WritesAll (WholeText told wrong header.scheme records some) start out
-written_end told wrong some old header records start out e written = subst (λ (h : Header). WritesAll (WholeText told wrong h.scheme records some) start out) e written
-
-pub told_line : (number : ℕ) (header : Header) (given line : List ℕ) (some : Bool) (r : ReportFault) → given ≡ line → IsLine number (fault_of header given) some r → IsLine number (fault_of header line) some r
-told_line number header given line some r e is = subst (λ (l : List ℕ). IsLine number (fault_of header l) some r) e is
+pub told_line : (number : ℕ) (header : Header) (given line : List ℕ) (finished : Result Bool ReadingFault) (r : ReportFault) → given ≡ line → IsAtLine number (fault_of header given) finished r
+    → IsAtLine number (fault_of header line) finished r
+told_line number header given line finished r e is = subst (λ (l : List ℕ). IsAtLine number (fault_of header l) finished r) e is
 
 -- nothing was taken of a line that has no form
 pub took_none : (told : Told) (header : Header) (number : ℕ) (line : List ℕ) (records : List Noted) (start out : Option (List ℕ)) (r : Reading) → has_no_form header line ≡ true
@@ -181,7 +225,7 @@ ends_from told text first lines said r start out e is ends =
 -- of no line anything is printed
 none_told : (told : Told) (said : Result Header (List ℕ)) → Tells told said [] []
 none_told told (Err first) = refl
-none_told told (Ok header) = ([], ([], tt, refl), refl)
+none_told told (Ok header) = ([], ([], tt, refl, tt), refl)
 
 none_written : (told : Told) (said : Result Header (List ℕ)) (start : Option (List ℕ)) → WritesAll (Tells told said []) start start
 none_written told said start = ([], none_told told said, Appends-nil start)
@@ -189,13 +233,13 @@ none_written told said start = ([], none_told told said, Appends-nil start)
 ends_unbegun : (told : Told) (fault : ReadingFault) (said : Result Header (List ℕ)) (lines : List (List ℕ)) (start : Option (List ℕ)) → IsReadFault fault → EndsBy told said lines (Err (report_fault_of fault)) start start
 ends_unbegun told Unreadable said lines start is = ([], lines, refl, none_written told said start)
 ends_unbegun told Output said lines start is = absurd is
+ends_unbegun told BrokenPipe said lines start is = absurd is
+ends_unbegun told BrokenPipeWarned said lines start is = absurd is
 ends_unbegun told NoMemory said lines start is = ([], lines, refl, none_written told said start)
 
-pub ends_without_header : (told : Told) (r : ReportFault) (first : List ℕ) (lines : List (List ℕ)) (start : Option (List ℕ)) → IsLine 1 (header_fault first) false r → EndsBy told (Err first) lines (Err r) start start
-ends_without_header told reported.Unreadable first lines start is = absurd is
-ends_without_header told reported.Output first lines start is = absurd is
-ends_without_header told reported.NoMemory first lines start is = absurd is
-ends_without_header told (reported.Line n fault warned) first lines start is = (ap Some (sym is.0), is.1, ([], (is.2, refl), Appends-nil start))
+pub ends_without_header : (told : Told) (r : ReportFault) (first : List ℕ) (lines : List (List ℕ)) (start : Option (List ℕ)) → IsAtLine 1 (header_fault first) (Ok false) r → EndsBy told (Err first) lines (Err r) start start
+ends_without_header told r first lines start is =
+    subst (λ (f : ReportFault). EndsBy told (Err first) lines (Err f) start start) (sym is.2) (refl, is.1, ([], (refl, refl), Appends-nil start))
 
 -- a text with this first line and these lines
 pub with_header : (told : Told) (left : Option (List ℕ)) (first : List ℕ) (lines : List (List ℕ)) (said : Result Header (List ℕ)) (r : Result Bool ReportFault) (start out : Option (List ℕ)) → IsText left (first ∷ lines)

@@ -20,6 +20,7 @@ pub mod WorkedCauseLines
 mod OutputLemmas
 mod LineLemmas
 mod FilterLemmas
+mod OrderLemmas
 mod VerdictLemmas
 mod ReadLemmas
 mod EndingLemmas

@@ -1,7 +1,7 @@
 -- The verdicts on a trace, one record after the other.
-use Rattle.std.proofs.Common.{◌≡◌, ◌↔◌, inl, inr, ℕ, zero, suc, ◌+◌, ◌<◌, Bool, true, false, IsTrue, List, [], ◌∷◌, ◌++◌, length, Option, Some, Result, Ok, Err, OnErr, IfErr, nat_lt, ltb-true, lt-ltb, refl, sym, ap, ap₂, subst, ◌∙◌, arith}
-use Rattle.std.specs.Prelude.{IsErrOf}
+use Rattle.std.proofs.Common.{◌≡◌, ◌↔◌, inl, inr, ℕ, zero, suc, ◌+◌, ◌<◌, Bool, true, false, IsTrue, List, [], ◌∷◌, ◌++◌, length, Option, None, Some, nat_lt, ltb-true, lt-ltb, refl, sym, ap, ap₂, subst, ◌∙◌, arith}
 use Rattle.std.specs.List.{filter as kept_by}
+use Rattle.std.proofs.lemmas.List.{drop_all}
 use Rattle.std.specs.Io.KnownBytes.{Appends}
 use Rattle.pte.specs.declared.scheme.Scheme.{Scheme}
 use Rattle.watch.specs.declared.trace.Record.{Record}
@@ -19,16 +19,22 @@ use Rattle.watch_report.specs.Filters.{taken, takes}
 use Rattle.watch_report.specs.Warnings.{sum_of, summary_line}
 use Rattle.watch_report.specs.TraceLines.{line_in, record_of}
 use Rattle.watch_report.specs.declared.reading_fault.ReadingFault.{ReadingFault}
-use Rattle.watch_report.specs.declared.reading_fault.ReadingFault.TheVariants.{Unreadable, Output, NoMemory}
+use Rattle.watch_report.specs.declared.reading_fault.ReadingFault.TheVariants.{Unreadable, Output, BrokenPipe, BrokenPipeWarned, NoMemory}
+use Rattle.watch_report.specs.declared.output.WriteFault.{WriteFault}
+use Rattle.watch_report.specs.declared.output.WriteFault.TheVariants as write
+use Rattle.watch_report.specs.declared.detail.Detail.TheVariants.{Causes, Counts, Verdicts}
+use Rattle.watch_report.specs.declared.warning.Trigger.{Trigger}
 use Rattle.watch_report.specs.declared.reading.Reading.{Reading}
 use Rattle.watch_report.specs.Past.{ArePast}
 use Rattle.watch_report.specs.Output.{AppendsFront}
-use Rattle.watch_report.specs.Reading.{FailsAtEnd, FailsAtLine, FailsAtRecord, HasSeen}
+use Rattle.watch_report.specs.Reading.{FailsAtEnd, FailsAtLine, FailsAtRecord, HasSeen, unwritten}
 use Rattle.watch_report.specs.TraceText.{Noted, trace_of}
 use Rattle.watch_report.specs.declared.detail.Detail.{Detail}
-use Rattle.watch_report.specs.Reports.{Told, WholeText, told_at, told_text, totals_by}
+use Rattle.watch_report.specs.Reports.{Told, WholeText, blocks_by, tallies_after, told_at, told_text, totals_by}
 use Rattle.watch_report.specs.Telling.{IsTelling}
-use Rattle.watch_report.specs.VerdictLines.{AreGiven, AreTold, GivesAt, GivesVerdict, counted, counts_after, counts_of, with_verdict}
+use Rattle.watch_report.specs.VerdictLines.{AreGiven, AreTold, GivesAt, GivesVerdict, counted, counts_after, counts_of, lines_by, trigger_of, with_verdict}
+use Rattle.watch_report.specs.Orders.{IsInOrder}
+use Rattle.watch_report.proofs.OrderLemmas.{kept_in_order}
 use Rattle.watch_report.proofs.OutputLemmas.{front_after}
 use Rattle.watch_report.proofs.FilterLemmas.{first_of, from_kept, same_taken, to_kept}
 
@@ -36,9 +42,9 @@ use Rattle.watch_report.proofs.FilterLemmas.{first_of, from_kept, same_taken, to
 
 -- with the warnings that are kept of those at it
 pub told_more : (filter : Filter) (scheme : Scheme) (newest : Noted) (records : List Noted) (told : List (List Warning)) (kept warnings : List Warning) → AreWarnings scheme newest.made (trace_of records) warnings
-    → kept ≡ kept_by (takes filter) warnings → AreTold filter scheme records told → AreTold filter scheme (newest ∷ records) (kept ∷ told)
-told_more filter scheme newest records told kept warnings new is old =
-    (warnings ∷ old.0, (new, old.1), ap₂ (λ (w : List Warning) (g : List (List Warning)). w ∷ g) is old.2)
+    → kept ≡ kept_by (takes filter) warnings → IsInOrder warnings → AreTold filter scheme records told → AreTold filter scheme (newest ∷ records) (kept ∷ told)
+told_more filter scheme newest records told kept warnings new is order old =
+    (warnings ∷ old.0, (new, old.1), ap₂ (λ (w : List Warning) (g : List (List Warning)). w ∷ g) is old.2, (subst IsInOrder (sym is) (kept_in_order (takes filter) warnings order), old.3))
 
 pub seen_more : (detail : Detail) (filter : Filter) (r new : Reading) (records : List Noted) (given : List (List Warning)) (newest : Noted) (warnings : List Warning)
     → HasSeen detail filter records given r → new.header ≡ r.header → new.filter ≡ r.filter → new.watch.scheme ≡ r.watch.scheme → Follows words since (newest.made ∷ trace_of records) new.watch
@@ -57,22 +63,6 @@ seen_more detail filter r new records given newest warnings seen header kept sch
       user = user ∙ ap (λ (counts : VerdictCounts). counts_after false counts warnings) seen.user;
       kernel = kernel ∙ ap (λ (counts : VerdictCounts). counts_after true counts warnings) seen.kernel;
     }
-
--- the writer failed at what is told of a record
-pub fails_at_record : (told : Told) (r : Result (Unit {0}) ReadingFault) (scheme : Scheme) (newest : Noted) (records : List Noted) (given : List (List Warning)) (warnings : List Warning) (start mid out : Option (List ℕ))
-    → AreTold told.filter scheme (newest ∷ records) (warnings ∷ given) → Appends start mid (told_text told scheme records given)
-    → OnErr r (IsErrOf r Output) → OnErr r (AppendsFront mid out (told_at told.detail told.file scheme newest records warnings given))
-    → IfErr r (λ fault. FailsAtRecord fault told scheme newest records start out)
-fails_at_record told (Ok done) scheme newest records given warnings start mid out are written is front = tt
-fails_at_record told (Err fault) scheme newest records given warnings start mid out are written is front =
-    subst (λ (r : Result (Unit {0}) ReadingFault). IfErr r (λ f. FailsAtRecord f told scheme newest records start out)) (sym is)
-    (told_text told scheme (newest ∷ records) (warnings ∷ given), (warnings ∷ given, are, refl), front_after start mid out _ _ written front)
-
-pub fails_at_line : (fault : ReadingFault) (told : Told) (header : Header) (number : ℕ) (line by : List ℕ) (made : Record) (records : List Noted) (start out : Option (List ℕ))
-    → line_in header line ≡ Some (record_of made by) → FailsAtRecord fault told header.scheme (record { made = made; by = by; line = number }) records start out → FailsAtLine fault told header number line records start out
-fails_at_line Unreadable told header number line by made records start out e fails = absurd fails
-fails_at_line Output told header number line by made records start out e fails = rw e (refl, fails)
-fails_at_line NoMemory told header number line by made records start out e fails = fails
 
 -- ---- how many verdicts there are
 
@@ -148,10 +138,60 @@ pub whole_text : (told : Told) (wrong : Option ℕ) (scheme : Scheme) (records :
 whole_text told wrong scheme records given some user kernel number are is a b n =
     rw (is, a, b, n) (given, are, refl, counts_say told.filter scheme records given are)
 
-pub fails_at_end : (told : Told) (wrong : Option ℕ) (r : Result (Unit {0}) ReadingFault) (scheme : Scheme) (records : List Noted) (some : Bool) (before last : List ℕ) (start mid out : Option (List ℕ))
-    → WholeText told wrong scheme records some (before ++ last) → Appends start mid before → OnErr r (IsErrOf r Output) → OnErr r (AppendsFront mid out last)
-    → IfErr r (λ fault. FailsAtEnd fault told wrong scheme records start out)
-fails_at_end told wrong (Ok done) scheme records some before last start mid out whole written is front = tt
-fails_at_end told wrong (Err fault) scheme records some before last start mid out whole written is front =
-    subst (λ (r : Result (Unit {0}) ReadingFault). IfErr r (λ f. FailsAtEnd f told wrong scheme records start out)) (sym is)
+-- ---- where a write fails
+
+lines_of_none : (file : List ℕ) (trigger : Option Trigger) (newest : Noted) (records : List Noted) → lines_by file trigger newest records [] ≡ []
+lines_of_none file None newest records = refl
+lines_of_none file (Some trigger) newest records = refl
+
+blocks_of_none : (file : List ℕ) (number : ℕ) (trigger : Option Trigger) (newest : Noted) (records : List Noted) → blocks_by file number trigger newest records [] ≡ []
+blocks_of_none file number None newest records = refl
+blocks_of_none file number (Some trigger) newest records = refl
+
+-- of a record without a verdict nothing is told
+none_told : (detail : Detail) (file : List ℕ) (scheme : Scheme) (newest : Noted) (records : List Noted) (given : List (List Warning)) → told_at detail file scheme newest records [] given ≡ []
+none_told Verdicts file scheme newest records given = lines_of_none file (trigger_of records newest.made) newest records
+none_told Causes file scheme newest records given =
+    let tallies = tallies_after scheme records given in
+    ap (blocks_by file (length tallies + 1) (trigger_of records newest.made) newest records) (drop_all (length tallies) tallies (omega arith))
+    ∙ blocks_of_none file (length tallies + 1) (trigger_of records newest.made) newest records
+none_told Counts file scheme newest records given = refl
+
+some_counted : (detail : Detail) (file : List ℕ) (scheme : Scheme) (newest : Noted) (records : List Noted) (given : List (List Warning)) (warnings : List Warning)
+    → 0 < length (told_at detail file scheme newest records warnings given) → nat_lt 0 (count_in (warnings ∷ given)) ≡ true
+some_counted detail file scheme newest records given [] some = absurd (omega (arith, some, ap length (none_told detail file scheme newest records given)))
+some_counted detail file scheme newest records given (w ∷ warnings) some = lt-ltb 0 (count_in ((w ∷ warnings) ∷ given)) (omega (arith, one_more (w ∷ warnings) given))
+
+-- at what is told of a record
+pub fails_at_record : (told : Told) (fault : WriteFault) (some : Bool) (scheme : Scheme) (newest : Noted) (records : List Noted) (given : List (List Warning)) (warnings : List Warning) (user kernel : VerdictCounts) (start mid out : Option (List ℕ))
+    → AreTold told.filter scheme (newest ∷ records) (warnings ∷ given) → some ≡ nat_lt 0 (sum_of user + sum_of kernel) → user ≡ counts_of false (warnings ∷ given) → kernel ≡ counts_of true (warnings ∷ given)
+    → Appends start mid (told_text told scheme records given)
+    → 0 < length (told_at told.detail told.file scheme newest records warnings given) → AppendsFront mid out (told_at told.detail told.file scheme newest records warnings given)
+    → FailsAtRecord (unwritten fault some) told scheme newest records start out
+fails_at_record told write.Failed some scheme newest records given warnings user kernel start mid out are is a b written long front =
+    (told_text told scheme (newest ∷ records) (warnings ∷ given), (warnings ∷ given, are, refl), front_after start mid out _ _ written front)
+fails_at_record told write.BrokenPipe some scheme newest records given warnings user kernel start mid out are is a b written long front =
+    let counted = some_counted told.detail told.file scheme newest records given warnings long in
+    let is_some : some ≡ true = is ∙ (ap₂ (λ (u k : VerdictCounts). nat_lt 0 (sum_of u + sum_of k)) a b ∙ counted) in
+    subst (λ (s : Bool). FailsAtRecord (unwritten write.BrokenPipe s) told scheme newest records start out) (sym is_some) (
+      (counts_say told.filter scheme (newest ∷ records) (warnings ∷ given) are).0 counted,
+      (told_text told scheme (newest ∷ records) (warnings ∷ given), (warnings ∷ given, are, refl), front_after start mid out _ _ written front),
+    )
+
+pub fails_at_line : (fault : ReadingFault) (told : Told) (header : Header) (number : ℕ) (line by : List ℕ) (made : Record) (records : List Noted) (start out : Option (List ℕ))
+    → line_in header line ≡ Some (record_of made by) → FailsAtRecord fault told header.scheme (record { made = made; by = by; line = number }) records start out → FailsAtLine fault told header number line records start out
+fails_at_line Unreadable told header number line by made records start out e fails = absurd fails
+fails_at_line Output told header number line by made records start out e fails = rw e (refl, fails)
+fails_at_line BrokenPipe told header number line by made records start out e fails = absurd fails
+fails_at_line BrokenPipeWarned told header number line by made records start out e fails = rw e (refl, fails.0, fails.1)
+fails_at_line NoMemory told header number line by made records start out e fails = fails
+
+-- at the last lines
+pub fails_at_end : (told : Told) (wrong : Option ℕ) (fault : WriteFault) (scheme : Scheme) (records : List Noted) (some : Bool) (before last : List ℕ) (start mid out : Option (List ℕ))
+    → WholeText told wrong scheme records some (before ++ last) → Appends start mid before → AppendsFront mid out last → FailsAtEnd (unwritten fault some) told wrong scheme records start out
+fails_at_end told wrong write.BrokenPipe scheme records true before last start mid out whole written front =
+    (before ++ last, whole, front_after start mid out before last written front)
+fails_at_end told wrong write.BrokenPipe scheme records false before last start mid out whole written front =
+    (before ++ last, whole, front_after start mid out before last written front)
+fails_at_end told wrong write.Failed scheme records some before last start mid out whole written front =
     (some, (before ++ last, whole, front_after start mid out before last written front))

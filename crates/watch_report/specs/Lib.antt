@@ -17,6 +17,7 @@ pub mod NoteTexts
 pub mod LineNumbers
 pub mod Past
 pub mod Filters
+pub mod Orders
 pub mod VerdictLines
 pub mod Reports
 pub mod Telling

@@ -18,6 +18,7 @@ use Rattle.watch_report.specs.declared.warning.Trigger.{Trigger}
 use Rattle.watch_report.specs.declared.warning.Trigger.TheVariants.{GivenBack, GivenOut, ClaimedSince, UsedAt}
 use Rattle.watch_report.specs.declared.warning.Warning.{Warning as PrintedWarning}
 use Rattle.watch_report.specs.Filters.{taken, takes_of}
+use Rattle.watch_report.specs.Orders.{IsInOrder}
 use Rattle.watch_report.specs.Warnings.{summary_line, warning_line}
 use Rattle.watch_report.specs.TraceText.{Noted, line_at, note_at, trace_of}
 
@@ -40,10 +41,15 @@ AreGiven scheme (newest ∷ records) [] = ⊥
 AreGiven scheme (newest ∷ records) (warnings ∷ given) =
     AreWarnings scheme newest.made (trace_of records) warnings × AreGiven scheme records given
 
--- and these are the ones that the filter takes
+abbrev pub AreInOrder : List (List Warning) → Type 0
+AreInOrder [] = Unit {0}
+AreInOrder (warnings ∷ told) = IsInOrder warnings × AreInOrder told
+
+-- and these are the ones that the filter takes, in order
 abbrev pub AreTold : Filter → Scheme → List Noted → List (List Warning) → Type 0
 AreTold filter scheme records told =
     (given : List (List Warning)) × AreGiven scheme records given × (told ≡ taken filter given)
+    × AreInOrder told
 
 -- ---- their lines
 

@@ -1,18 +1,19 @@
 -- Worked reports: what was worked out by hand of a few lines.
 use Rattle.std.specs.Prelude.{◌≡◌, ℕ, Bool, true, false, codes, List, [], ◌∷◌, ◌++◌, Result, Ok, Err, Some, None}
 use Rattle.pte.specs.declared.scheme.Scheme.TheVariants.{Sv39}
-use Rattle.pte.specs.declared.address.PageSize.TheVariants.{Kib4}
+use Rattle.pte.specs.declared.address.PageSize.TheVariants.{Kib4, Mib2}
 use Rattle.tlb.specs.declared.store.Entry.{Entry}
 use Rattle.watch.specs.declared.trace.Record.TheVariants.{GiveBack, Store, Use}
 use Rattle.watch.specs.declared.trace.Verdict.{Verdict}
 use Rattle.watch.specs.declared.trace.Verdict.TheVariants.{Free, Used}
 use Rattle.watch_engine.specs.declared.warning.Warning.{Warning}
 use Rattle.watch_report.specs.declared.fault.ReportFault.{ReportFault}
-use Rattle.watch_report.specs.declared.fault.ReportFault.TheVariants.{Line, Output, Unreadable}
+use Rattle.watch_report.specs.declared.fault.ReportFault.TheVariants.{BrokenPipe, BrokenPipeAtLine, Line, Output, Unreadable}
 use Rattle.watch_report.specs.declared.line_fault.LineReason.TheVariants.{EmptyStart, NoHart, NoTrace}
 use Rattle.watch_report.specs.Ending.{Ends}
 use Rattle.watch_report.specs.Filters.{no_filter}
 use Rattle.watch_report.specs.LineFaults.{fault_at}
+use Rattle.watch_report.specs.Orders.{IsInOrder}
 use Rattle.watch_report.specs.Reports.{Told, end_text, told_of, told_text}
 use Rattle.watch_report.specs.TraceText.{Noted, body_of, records_of}
 use Rattle.watch_report.specs.declared.detail.Detail.{Detail}
@@ -68,6 +69,14 @@ cut_off = Prints used_once (codes "1 rec") (Err Output)
 abbrev pub cut_off_at_a_fault : Type 0
 cut_off_at_a_fault = Prints hart_too_great (codes "1 rec") (Err Output)
 
+-- and where nobody reads it any more
+abbrev pub unread : Type 0
+unread = Prints used_once (codes "1 rec") (Err (BrokenPipe false))
+
+abbrev pub unread_at_a_fault : Type 0
+unread_at_a_fault =
+    Prints hart_too_great (codes "1 rec") (Err (BrokenPipeAtLine 3 (fault_at 3 (NoHart 2 1)) false))
+
 -- what is not so: another line, another fault of the line, a fault that counts for nothing, a verdict
 -- where there is none, no last line
 abbrev pub other_line : Type 0
@@ -102,6 +111,16 @@ no_last_line_at_a_fault = ¬ Prints hart_too_great [] (Err (Line 3 (fault_at 3 (
 
 abbrev pub nothing_printed : Type 0
 nothing_printed = ¬ Prints (codes "watch 1 2 sv39") [] (Ok false)
+
+-- where nobody reads on: a wrong line that is not told, a verdict where there is none, other bytes
+abbrev pub unread_before_a_fault : Type 0
+unread_before_a_fault = ¬ Prints hart_too_great [] (Err (BrokenPipe false))
+
+abbrev pub unread_without_a_verdict : Type 0
+unread_without_a_verdict = ¬ Prints (codes "watch 1 2 sv39") [] (Err (BrokenPipe true))
+
+abbrev pub unread_other_bytes : Type 0
+unread_other_bytes = ¬ Prints used_once (codes "no") (Err (BrokenPipe false))
 
 -- ---- verdicts
 
@@ -223,3 +242,70 @@ no_total = ¬ Says Causes given block_of_cause last_line
 
 abbrev pub block_of_counts : Type 0
 block_of_counts = ¬ Says Counts given block_of_cause last_line
+
+-- ---- the order at a record
+
+abbrev pub of_hart : ℕ → Warning → Warning
+of_hart hart w = record w { hart = hart }
+
+abbrev pub with_entry : Entry → Warning → Warning
+with_entry e w = record w { entry = e }
+
+-- on the page behind the other
+abbrev pub on_next_page : Warning → Warning
+on_next_page w = with_entry (record w.entry { page = record { base = 0x2000; size = Kib4 } }) w
+
+abbrev pub by_hart : Type 0
+by_hart =
+    IsInOrder
+    (of_hart 0 (on_next_page (warning_of Free false)) ∷ warning_of Free false ∷ of_hart 2 (warning_of Free false) ∷ [])
+
+abbrev pub by_page : Type 0
+by_page = IsInOrder (warning_of Used true ∷ on_next_page (warning_of Free false) ∷ [])
+
+abbrev pub by_owner : Type 0
+by_owner = IsInOrder (warning_of Used false ∷ warning_of Free true ∷ [])
+
+abbrev pub by_kind : Type 0
+by_kind = IsInOrder (warning_of Free false ∷ warning_of Used false ∷ [])
+
+abbrev pub hart_too_late : Type 0
+hart_too_late = ¬ IsInOrder (warning_of Free false ∷ of_hart 0 (warning_of Free false) ∷ [])
+
+abbrev pub page_too_late : Type 0
+page_too_late = ¬ IsInOrder (on_next_page (warning_of Free false) ∷ warning_of Free false ∷ [])
+
+abbrev pub kind_too_late : Type 0
+kind_too_late = ¬ IsInOrder (warning_of Used false ∷ warning_of Free false ∷ [])
+
+-- on a larger page
+abbrev pub by_size : Type 0
+by_size =
+    IsInOrder
+    (warning_of Used true
+    ∷ with_entry (record (entry_of false) { page = record { base = 0x1000; size = Mib2 } }) (warning_of Free false) ∷ [])
+
+abbrev pub by_ppn : Type 0
+by_ppn =
+    IsInOrder
+    (warning_of Used true ∷ with_entry (record (entry_of false) { ppn = 0x101 }) (warning_of Free false) ∷ [])
+
+abbrev pub with_flags : ℕ → Warning
+with_flags flags = with_entry (record (entry_of false) { flags = record { 0 = flags } }) (warning_of Free false)
+
+-- R, RW, RX and RU
+abbrev pub by_rights : Type 0
+by_rights = IsInOrder (with_flags 0x3 ∷ with_flags 0x7 ∷ with_flags 0xB ∷ with_flags 0x13 ∷ [])
+
+abbrev pub of_space : ℕ → ℕ → Warning
+of_space root asid =
+    record (with_entry (record (entry_of false) { asid = asid }) (warning_of Free false)) { root = root }
+
+abbrev pub by_root : Type 0
+by_root = IsInOrder (of_space 0x80000 2 ∷ of_space 0x80001 1 ∷ [])
+
+abbrev pub rights_too_late : Type 0
+rights_too_late = ¬ IsInOrder (with_flags 0x13 ∷ with_flags 0xB ∷ [])
+
+abbrev pub root_too_late : Type 0
+root_too_late = ¬ IsInOrder (of_space 0x80001 1 ∷ of_space 0x80000 2 ∷ [])

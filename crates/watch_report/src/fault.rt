@@ -22,6 +22,19 @@ pub enum ReportFault {
     /// The writer failed.
     #[error("the report cannot be written")]
     Output,
+    /// Nobody reads the report any more, of a trace whose lines so far have a form. `warned` says
+    /// whether there is a verdict on its records so far; without one all lines were read.
+    #[error("nobody reads the report any more")]
+    BrokenPipe {
+        warned: bool,
+    },
+    /// Nobody reads the last lines any more, of a trace of which a line has no form, as of `Line`.
+    #[error("{number}:{fault}")]
+    BrokenPipeAtLine {
+        number: u64,
+        fault: LineFault,
+        warned: bool,
+    },
     /// There is not enough memory, or a count has no room in 64 bits.
     #[error("there is not enough memory")]
     NoMemory,
@@ -36,6 +49,8 @@ impl From<ReadingFault> for ReportFault {
         match fault {
             ReadingFault::Unreadable => ReportFault::Unreadable,
             ReadingFault::Output => ReportFault::Output,
+            ReadingFault::BrokenPipe => ReportFault::BrokenPipe { warned: false },
+            ReadingFault::BrokenPipeWarned => ReportFault::BrokenPipe { warned: true },
             ReadingFault::NoMemory => ReportFault::NoMemory,
         }
     }

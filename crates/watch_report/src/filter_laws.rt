@@ -7,24 +7,30 @@ ghost use Rattle.watch_report.specs.declared.filter.Filter.{Filter};
 ghost use Rattle.watch_report.specs.declared.filter.Kind.{Kind};
 ghost use Rattle.watch_report.specs.declared.warning.Warning.{Warning as PrintedWarning};
 ghost use Rattle.watch_report.specs.Filters.{AreTakenAt, has_kind, kind_in, kind_of, kind_text, no_filter, takes};
+ghost use Rattle.watch_report.specs.Orders.{IsInOrder};
 ghost use Rattle.watch_report.specs.TraceText.{Noted, trace_of};
-ghost use Rattle.watch_report.specs.VerdictLines.{AreGiven, AreTold};
+ghost use Rattle.watch_report.specs.VerdictLines.{AreGiven, AreInOrder, AreTold};
 ghost use Rattle.watch_report.specs.Warnings.{place_text, verdict_of, verdict_part};
 
 /// The filter without a test takes every verdict, so that a report tells of all that are given.
 pub fn open_filter_takes_all()
     ensures takes { (w : Warning) → takes no_filter w ≡ true }
     ensures told { (scheme : Scheme) (records : List Noted) (given : List (List Warning))
-        → AreTold no_filter scheme records given ↔ AreGiven scheme records given }
+        → AreTold no_filter scheme records given
+        ↔ AreGiven scheme records given × AreInOrder given }
 {}
 
-/// At each record a report tells of the verdicts there that its filter takes, all of them and no
-/// others.
+/// At the newest record a report tells of the verdicts there that its filter takes, all of them and no
+/// others, in order, and at each record before it likewise.
 pub fn told_verdicts_are_those_taken()
-    ensures { (filter : Filter) (scheme : Scheme) (newest : Noted) (records : List Noted)
+    ensures newest { (filter : Filter) (scheme : Scheme) (newest : Noted) (records : List Noted)
         (warnings : List Warning) (told : List (List Warning))
         → AreTold filter scheme (newest ∷ records) (warnings ∷ told)
-        → AreTakenAt filter scheme newest.made (trace_of records) warnings }
+        → AreTakenAt filter scheme newest.made (trace_of records) warnings × IsInOrder warnings }
+    ensures before { (filter : Filter) (scheme : Scheme) (newest : Noted) (records : List Noted)
+        (warnings : List Warning) (told : List (List Warning))
+        → AreTold filter scheme (newest ∷ records) (warnings ∷ told)
+        → AreTold filter scheme records told }
 {}
 
 /// The line of a verdict has the word of its kind. Each such word is read as its kind, and no other word

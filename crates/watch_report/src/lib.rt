@@ -29,6 +29,7 @@ mod lines;
 mod newest;
 mod notes;
 mod numbers;
+mod order;
 mod output;
 mod past;
 mod push;
@@ -82,4 +83,6 @@ pub use worked_lines::{
     worked_headers, worked_readings, worked_records, worked_refusals, worked_summaries,
     worked_warnings,
 };
-pub use worked_reports::{refused_endings, refused_texts, worked_endings, worked_texts};
+pub use worked_reports::{
+    refused_endings, refused_texts, worked_endings, worked_texts, worked_verdict_orders,
+};

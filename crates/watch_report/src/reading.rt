@@ -1,15 +1,16 @@
 //! A trace that is being read.
-ghost use Rattle.std.specs.Prelude.{◌≡◌, ◌∷◌, ℕ, List, [], Option, IfErr, IfOk, OnOk, not};
+ghost use Rattle.std.specs.Prelude.{◌≡◌, ◌+◌, ◌∷◌, ℕ, List, [], Option, IfErr, IfOk, OnOk, nat_lt, not};
 ghost use Rattle.watch_engine.specs.declared.warning.Warning.{Warning as WarningOf};
 ghost use Rattle.watch_report.specs.declared.detail.Detail.{Detail as DetailOf};
 ghost use Rattle.watch_report.specs.declared.filter.Filter.{Filter as FilterOf};
 ghost use Rattle.watch_report.specs.declared.reading_fault.ReadingFault.TheVariants.{NoMemory};
 ghost use Rattle.watch_report.specs.Output.{WritesAll};
-ghost use Rattle.watch_report.specs.Reading.{FailsAtEnd, FailsAtLine, FailsAtRecord, HasSeen, Stands, TellsMore};
+ghost use Rattle.watch_report.specs.Reading.{FailsAtEnd, FailsAtLine, FailsAtRecord, HasSeen, Stands, TellsMore, unwritten};
 ghost use Rattle.watch_report.specs.Reports.{told_of, WholeText};
 ghost use Rattle.watch_report.specs.TraceLines.{line_in};
 ghost use Rattle.watch_report.specs.TraceText.{has_no_form, Noted, with_record};
 ghost use Rattle.watch_report.specs.VerdictLines.{noted_by};
+ghost use Rattle.watch_report.specs.Warnings.{sum_of};
 
 use crate::counting::{count_warnings, has_verdicts, one_more};
 use crate::counts::{VerdictCounts, push_summary};
@@ -18,7 +19,8 @@ use crate::filter::Filter;
 use crate::header::Header;
 use crate::line::{Line, read_line};
 use crate::newest::Newest;
-use crate::output::write_whole;
+use crate::order::put_in_order;
+use crate::output::{WriteFault, write_whole};
 use crate::past::Past;
 use crate::reading_fault::ReadingFault;
 use crate::telling::Telling;
@@ -74,6 +76,7 @@ impl Reading {
         let trigger = trigger_of(&self.watch, &self.past, newest.made);
         let number = one_more(self.records)?;
         let mut warnings = self.watch.record(newest.made)?;
+        put_in_order(&mut warnings);
         self.filter.retain(&mut warnings);
         self.records = number;
         count_warnings(&mut self.user, &mut self.kernel, warnings.as_slice())?;
@@ -87,6 +90,22 @@ impl Reading {
         )?;
         self.past.add(newest.by, newest.line)?;
         Ok(text)
+    }
+
+    /// Why what is told is not written whole.
+    fn unwritten(&self, fault: WriteFault) -> ReadingFault
+        ensures { result ≡ unwritten fault (nat_lt 0 (sum_of self.now.user + sum_of self.now.kernel)) }
+    {
+        match fault {
+            WriteFault::BrokenPipe => {
+                if has_verdicts(self.user, self.kernel) {
+                    ReadingFault::BrokenPipeWarned
+                } else {
+                    ReadingFault::BrokenPipe
+                }
+            }
+            WriteFault::Failed => ReadingFault::Output,
+        }
     }
 
     /// Takes the next record, and writes what is told of it.
@@ -109,7 +128,10 @@ impl Reading {
             self.old.header.scheme (noted_by newest.now) records start (W.contents out.new)) }
     {
         let text = self.judge(file, newest)?;
-        write_whole(out, text.as_slice())
+        match write_whole(out, text.as_slice()) {
+            Ok(()) => Ok(()),
+            Err(fault) => Err(self.unwritten(fault)),
+        }
     }
 
     /// Takes the next line, which has this number. Whether it has a form: of one that has none nothing
@@ -177,7 +199,7 @@ impl Reading {
         push_summary(&mut text, self.records, wrong, &self.user, &self.kernel)?;
         match write_whole(out, text.as_slice()) {
             Ok(()) => Ok(has_verdicts(self.user, self.kernel)),
-            Err(fault) => Err(fault),
+            Err(fault) => Err(self.unwritten(fault)),
         }
     }
 }

@@ -11,6 +11,10 @@ pub enum ReadingFault {
     Unreadable,
     /// The writer failed.
     Output,
+    /// Nobody reads what is written any more, and there was no verdict.
+    BrokenPipe,
+    /// Nobody reads what is written any more, and there was a verdict.
+    BrokenPipeWarned,
     /// There is not enough memory, or a count has no room in 64 bits.
     NoMemory,
 }

@@ -1,6 +1,6 @@
 //! The report of a trace.
 ghost use Rattle.std.specs.Prelude.{ℕ, List, IfSome, ◌≡◌, Ok, None, false, true};
-ghost use Rattle.watch_report.specs.Ending.{Ends, EndsBy, IsLine};
+ghost use Rattle.watch_report.specs.Ending.{Ends, EndsBy, IsAtLine};
 ghost use Rattle.watch_report.specs.Fields.{fields_of};
 ghost use Rattle.watch_report.specs.LineFaults.{fault_of, header_fault};
 ghost use Rattle.watch_report.specs.Reports.{told_of};
@@ -14,6 +14,7 @@ use crate::find_fault::{find_header_fault, find_line_fault};
 use crate::header::{Header, read_header};
 use crate::input::read_line;
 use crate::reading::Reading;
+use crate::reading_fault::ReadingFault;
 use crate::retry::Retrying;
 use std::alloc::Global;
 use std::io::{BufRead, BufReader, Read, Write};
@@ -21,7 +22,7 @@ use std::io::{BufRead, BufReader, Read, Write};
 /// What is told of a first line that is no header.
 fn first_line_fault(line: &[u8]) -> ReportFault
     requires { header_in (fields_of line.now) ≡ None }
-    ensures { IsLine 1 (header_fault line.now) false result }
+    ensures { IsAtLine 1 (header_fault line.now) (Ok false) result }
 {
     let Some(fault) = find_header_fault(line) else {
         unreachable!()
@@ -33,18 +34,36 @@ fn first_line_fault(line: &[u8]) -> ReportFault
     }
 }
 
-/// What is told of a line that has no form.
-fn fault_of_line(header: Header, number: u64, line: &[u8], warned: bool) -> ReportFault
+/// What is told of a line that has no form, by how the last lines were written.
+fn fault_of_line(
+    header: Header,
+    number: u64,
+    line: &[u8],
+    finished: Result<bool, ReadingFault>,
+) -> ReportFault
     requires { has_no_form header line.now ≡ true }
-    ensures { IsLine number (fault_of header line.now) warned result }
+    ensures { IsAtLine number (fault_of header line.now) finished result }
 {
     let Some(fault) = find_line_fault(header, line) else {
         unreachable!()
     };
-    ReportFault::Line {
-        number,
-        fault,
-        warned,
+    match finished {
+        Ok(warned) => ReportFault::Line {
+            number,
+            fault,
+            warned,
+        },
+        Err(ReadingFault::BrokenPipe) => ReportFault::BrokenPipeAtLine {
+            number,
+            fault,
+            warned: false,
+        },
+        Err(ReadingFault::BrokenPipeWarned) => ReportFault::BrokenPipeAtLine {
+            number,
+            fault,
+            warned: true,
+        },
+        Err(fault) => ReportFault::from(fault),
     }
 }
 
@@ -69,8 +88,8 @@ fn report_lines<R: BufRead, W: Write>(
         let text = line.as_slice();
         let taken = reading.take_line(file, number, text, out)?;
         if !taken {
-            let warned = reading.finish(file, Some(number), out)?;
-            return Err(fault_of_line(header, number, text, warned));
+            let finished = reading.finish(file, Some(number), out);
+            return Err(fault_of_line(header, number, text, finished));
         }
         if !more {
             let some = reading.finish(file, None, out)?;
@@ -113,7 +132,7 @@ fn report_all<R: BufRead, W: Write>(
 ///
 /// What was written before a fault stays. At `Line` it is all that of the records before the line, with
 /// the last lines, or nothing if it is the first. At the others it is what is told of some of the
-/// records, from the first on, or of `Output` a beginning of that or of all.
+/// records, from the first on, or of `Output` and `BrokenPipe` a beginning of that or of all.
 pub fn report_trace<R: Read + Drop, W: Write>(
     alloc: Global,
     detail: Detail,

@@ -15,6 +15,8 @@ pub fn worked_endings()
     ensures torn { reports.torn }
     ensures cut_off { reports.cut_off }
     ensures cut_off_at_a_fault { reports.cut_off_at_a_fault }
+    ensures unread { reports.unread }
+    ensures unread_at_a_fault { reports.unread_at_a_fault }
 {}
 
 /// What no report leaves.
@@ -29,6 +31,9 @@ pub fn refused_endings()
     ensures whole_at_a_fault { reports.whole_at_a_fault }
     ensures no_last_line_at_a_fault { reports.no_last_line_at_a_fault }
     ensures nothing_printed { reports.nothing_printed }
+    ensures unread_before_a_fault { reports.unread_before_a_fault }
+    ensures unread_without_a_verdict { reports.unread_without_a_verdict }
+    ensures unread_other_bytes { reports.unread_other_bytes }
 {}
 
 /// What is told of two verdicts, in each detail.
@@ -48,4 +53,22 @@ pub fn refused_texts()
     ensures no_block { reports.no_block }
     ensures no_total { reports.no_total }
     ensures block_of_counts { reports.block_of_counts }
+{}
+
+/// The order of verdicts at a record.
+#[tactic(auto, using(crate::proofs::WorkedReports::orders))]
+pub fn worked_verdict_orders()
+    ensures by_hart { reports.by_hart }
+    ensures by_page { reports.by_page }
+    ensures by_size { reports.by_size }
+    ensures by_ppn { reports.by_ppn }
+    ensures by_rights { reports.by_rights }
+    ensures by_owner { reports.by_owner }
+    ensures by_kind { reports.by_kind }
+    ensures by_root { reports.by_root }
+    ensures hart_too_late { reports.hart_too_late }
+    ensures page_too_late { reports.page_too_late }
+    ensures rights_too_late { reports.rights_too_late }
+    ensures kind_too_late { reports.kind_too_late }
+    ensures root_too_late { reports.root_too_late }
 {}

@@ -1,6 +1,6 @@
-use Rattle.std.proofs.Common.{ℕ, List, Option, Ok, true, false, refl}
+use Rattle.std.proofs.Common.{ℕ, List, Option, refl, subst}
 use Rattle.std.proofs.KnownBytes.{Appends-nil}
-use Rattle.scenario.specs.Command.{Reports, warned}
+use Rattle.scenario.specs.Command.{Ending, Reports, warned}
 use Rattle.scenario.proofs.FileLemmas.{nothing_reported}
 use Rattle.scenario.proofs.watch_program.watch_command_with.Goals as goal
 
@@ -11,9 +11,40 @@ warned_reported file err = record { told = warned; is_told = refl; status_is = r
 pub returns-in-Ok-true : goal.returns-in-Ok-true
 returns-in-Ok-true g c =
     let e = rw c.in-Ok-true.field-0-test at c.in-Ok-true.ensures in
-    (e.0, e.1, record { reported = Ok true; leaves = e.2; reports = warned_reported c.args.file.now _ })
+    let r = c.report_trace.ensures in
+    let err = g.E.Write.contents c.args.err.now in (
+      r.0,
+      r.1,
+      record {
+        reported = c.report_trace.result;
+        leaves = r.2;
+        reports = subst (λ (ending : Ending). Reports c.args.file.now ending 1 err err) e (warned_reported c.args.file.now err);
+      },
+    )
 
 pub returns-in-Ok-false : goal.returns-in-Ok-false
 returns-in-Ok-false g c =
     let e = rw c.in-Ok-false.field-0-test at c.in-Ok-false.ensures in
-    (e.0, e.1, record { reported = Ok false; leaves = e.2; reports = nothing_reported c.args.file.now _ })
+    let r = c.report_trace.ensures in
+    let err = g.E.Write.contents c.args.err.now in (
+      r.0,
+      r.1,
+      record {
+        reported = c.report_trace.result;
+        leaves = r.2;
+        reports = subst (λ (ending : Ending). Reports c.args.file.now ending 0 err err) e (nothing_reported c.args.file.now err);
+      },
+    )
+
+pub returns-in-Err : goal.returns-in-Err
+returns-in-Err g c =
+    let r = c.report_trace.ensures in
+    let err = g.E.Write.contents c.args.err.now in (
+      r.0,
+      r.1,
+      record {
+        reported = c.report_trace.result;
+        leaves = r.2;
+        reports = subst (λ (ending : Ending). Reports c.args.file.now ending c.report.result err (g.E.Write.contents c.report.new.err)) c.in-Err.ensures c.report.ensures;
+      },
+    )

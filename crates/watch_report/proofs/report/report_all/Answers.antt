@@ -2,7 +2,7 @@ use Rattle.std.proofs.Common.{◌≡◌, [], List, ℕ, None, Some, Ok, Err, ap,
 use Rattle.std.proofs.KnownBytes.{Appends-nil}
 use Rattle.std.proofs.lemmas.Result.{err_from_is_err_and}
 use Rattle.watch_report.specs.Fields.{fields_of}
-use Rattle.watch_report.specs.Ending.{IsLine}
+use Rattle.watch_report.specs.Ending.{IsAtLine}
 use Rattle.watch_report.specs.LineFaults.{header_fault}
 use Rattle.watch_report.specs.TraceLines.{header_in}
 use Rattle.watch_report.specs.Reading.{report_fault_of}
@@ -27,7 +27,7 @@ returns-in_default g c =
     let none : header_in (fields_of first) ≡ None =
     ap (λ (l : List ℕ). header_in (fields_of l)) (sym c.as_slice-text.ensures.value) ∙ sym c.read_header.ensures ∙ c.in_default.is in
     let said : said_first first ≡ Err first = ap (or_line first) none in
-    let told : IsLine 1 (header_fault first) false c.first_line_fault.result = subst (λ (l : List ℕ). IsLine 1 (header_fault l) false c.first_line_fault.result) c.as_slice-text.ensures.value c.first_line_fault.ensures in
+    let told : IsAtLine 1 (header_fault first) (Ok false) c.first_line_fault.result = subst (λ (l : List ℕ). IsAtLine 1 (header_fault l) (Ok false) c.first_line_fault.result) c.as_slice-text.ensures.value c.first_line_fault.ensures in
     with_header (told_of c.args.detail c.args.filter c.args.file.now) _ first whole.0 (Err first) (Err c.first_line_fault.result) (g.W.Write.contents c.args.out.now) (g.W.Write.contents c.args.out.now) whole.1 said (ends_without_header (told_of c.args.detail c.args.filter c.args.file.now) c.first_line_fault.result first whole.0 _ told)
 
 pub first_line_fault-requires : goal.first_line_fault-requires

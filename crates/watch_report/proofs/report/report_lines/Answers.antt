@@ -7,7 +7,7 @@ use Rattle.watch_report.specs.Reading.{ReadsLine, report_fault_of}
 use Rattle.watch_report.specs.TraceText.{lines_of}
 use Rattle.watch_report.specs.Reports.{told_of}
 use Rattle.watch_report.proofs.ReadLemmas.{last_text, line_text, more_read, more_taken, none_read, none_taken, some_text, torn_text}
-use Rattle.watch_report.proofs.EndingLemmas.{ends_at_fault, ends_at_line, ends_done, ends_undone, ends_unfinished, ends_unread, ends_within, failed_end, failed_line, formed_line, told_line, took_line, took_none, with_text, written_end, written_of}
+use Rattle.watch_report.proofs.EndingLemmas.{ends_at_fault, ends_at_line, ends_done, ends_undone, ends_unread, ends_within, failed_end, failed_line, finishes, formed_line, told_line, took_line, took_none, with_text, written_end, written_of}
 use Rattle.watch_report.proofs.report.report_lines.Goals as goal
 
 pub loop-number-init : goal.loop-number-init
@@ -33,38 +33,26 @@ returns-in_err-taken g c =
     let ends = ends_at_line (told_of c.args.detail c.args.filter c.args.file.now) _ c.args.header c.loop-number.number i.0 whole.0 _ i.1 _ _ i.6 i.3 fails in
     rw (p.1, p.2) (with_text (told_of c.args.detail c.args.filter c.args.file.now) _ _ (Ok c.args.header) (Err (report_fault_of c.in_err-taken.field-0.0)) (g.W.Write.contents c.args.out.now) (g.W.Write.contents c.take_line.new.out) whole.1 ends)
 
--- the line has no form, and nothing of it was taken
-pub returns-in_err-warned : goal.returns-in_err-warned
-returns-in_err-warned g c =
-    let i = c.loop-number.invariant in
-    let line = c.read_line.new.line.items in
-    let e : c.in_ok-taken.taken ≡ false = search rules in
-    let p = err_from_is_err_and c.from_residual-in_err-warned.result c.from_residual-in_err-warned.ensures.1 in
-    let whole = line_text _ _ _ _ i.0 line i.2 c.in_ok-more.ensures.ok in
-    let none = formed_line true _ c.args.header _ line i.5 c.as_slice-text.ensures.value (c.in_ok-taken.ensures.form ∙ ap not e) in
-    let stands = took_none (told_of c.args.detail c.args.filter c.args.file.now) c.args.header c.loop-number.number line i.1 _ _ c.take_line.new.self none (took_line (told_of c.args.detail c.args.filter c.args.file.now) _ c.args.header c.loop-number.number _ line i.1 _ _ c.take_line.new.self i.5 c.as_slice-text.ensures.value (c.in_ok-taken.ensures.ok c.args.detail c.args.filter _ i.1 i.4)) in
-    let fails = failed_end (told_of c.args.detail c.args.filter c.args.file.now) (Some c.loop-number.number) _ _ c.args.header i.1 _ _ (c.take_line.ensures.header ∙ i.5) (c.in_err-warned.ensures.err c.args.detail c.args.filter _ i.1 stands) in
-    let ends = ends_unfinished (told_of c.args.detail c.args.filter c.args.file.now) _ c.args.header c.loop-number.number i.0 whole.0 line i.1 _ _ i.6 i.3 none fails in
-    rw (p.1, p.2) (with_text (told_of c.args.detail c.args.filter c.args.file.now) _ _ (Ok c.args.header) (Err (report_fault_of c.in_err-warned.field-0.0)) (g.W.Write.contents c.args.out.now) (g.W.Write.contents c.finish.new.out) whole.1 ends)
-
 pub fault_of_line-requires : goal.fault_of_line-requires
 fault_of_line-requires g c =
     let i = c.loop-number.invariant in
     let e : c.in_ok-taken.taken ≡ false = search rules in
     formed_line true _ c.args.header _ c.as_slice-text.result.now i.5 refl (c.in_ok-taken.ensures.form ∙ ap not e)
 
+-- the line has no form, and nothing of it was taken
 pub returns-then-not-taken : goal.returns-then-not-taken
 returns-then-not-taken g c =
     let i = c.loop-number.invariant in
     let line = c.read_line.new.line.items in
+    let about = told_of c.args.detail c.args.filter c.args.file.now in
     let e : c.in_ok-taken.taken ≡ false = search rules in
     let whole = line_text _ _ _ _ i.0 line i.2 c.in_ok-more.ensures.ok in
     let none = formed_line true _ c.args.header _ line i.5 c.as_slice-text.ensures.value (c.in_ok-taken.ensures.form ∙ ap not e) in
-    let stands = took_none (told_of c.args.detail c.args.filter c.args.file.now) c.args.header c.loop-number.number line i.1 _ _ c.take_line.new.self none (took_line (told_of c.args.detail c.args.filter c.args.file.now) _ c.args.header c.loop-number.number _ line i.1 _ _ c.take_line.new.self i.5 c.as_slice-text.ensures.value (c.in_ok-taken.ensures.ok c.args.detail c.args.filter _ i.1 i.4)) in
-    let written = written_end (told_of c.args.detail c.args.filter c.args.file.now) (Some c.loop-number.number) _ _ c.args.header i.1 _ _ (c.take_line.ensures.header ∙ i.5) (c.in_ok-warned.ensures.ok c.args.detail c.args.filter _ i.1 stands) in
+    let stands = took_none about c.args.header c.loop-number.number line i.1 _ _ c.take_line.new.self none (took_line about _ c.args.header c.loop-number.number _ line i.1 _ _ c.take_line.new.self i.5 c.as_slice-text.ensures.value (c.in_ok-taken.ensures.ok c.args.detail c.args.filter _ i.1 i.4)) in
+    let does = finishes about (Some c.loop-number.number) _ c.args.header i.1 _ _ c.finish-finished.result (c.take_line.ensures.header ∙ i.5) (c.finish-finished.ensures.ok c.args.detail c.args.filter _ i.1 stands) (c.finish-finished.ensures.err c.args.detail c.args.filter _ i.1 stands) in
     let told = told_line _ c.args.header _ line _ _ c.as_slice-text.ensures.value c.fault_of_line.ensures in
-    let ends = ends_at_fault (told_of c.args.detail c.args.filter c.args.file.now) c.fault_of_line.result c.args.header c.loop-number.number i.0 whole.0 line i.1 _ _ _ i.6 i.3 none told written in
-    with_text (told_of c.args.detail c.args.filter c.args.file.now) _ _ (Ok c.args.header) (Err c.fault_of_line.result) (g.W.Write.contents c.args.out.now) (g.W.Write.contents c.finish.new.out) whole.1 ends
+    let ends = ends_at_fault about c.finish-finished.result c.fault_of_line.result c.args.header c.loop-number.number i.0 whole.0 line i.1 _ _ i.6 i.3 none told does in
+    with_text about _ _ (Ok c.args.header) (Err c.fault_of_line.result) (g.W.Write.contents c.args.out.now) (g.W.Write.contents c.finish-finished.new.out) whole.1 ends
 
 -- the last line was taken
 pub returns-in_err-some : goal.returns-in_err-some
@@ -81,7 +69,7 @@ returns-in_err-some g c =
     let taken = more_taken c.args.header i.0 c.loop-number.number line i.1 i.6 i.3 formed in
     let fails = failed_end (told_of c.args.detail c.args.filter c.args.file.now) None _ _ c.args.header _ _ _ (c.take_line.ensures.header ∙ i.5) (c.in_err-some.ensures.err c.args.detail c.args.filter _ _ took) in
     let ends = ends_undone (told_of c.args.detail c.args.filter c.args.file.now) _ c.args.header _ _ _ _ taken fails in
-    rw (p.1, p.2) (with_text (told_of c.args.detail c.args.filter c.args.file.now) _ _ (Ok c.args.header) (Err (report_fault_of c.in_err-some.field-0.0)) (g.W.Write.contents c.args.out.now) (g.W.Write.contents c.finish-then-not-more.new.out) whole ends)
+    rw (p.1, p.2) (with_text (told_of c.args.detail c.args.filter c.args.file.now) _ _ (Ok c.args.header) (Err (report_fault_of c.in_err-some.field-0.0)) (g.W.Write.contents c.args.out.now) (g.W.Write.contents c.finish.new.out) whole ends)
 
 pub returns-then-not-more : goal.returns-then-not-more
 returns-then-not-more g c =
@@ -96,7 +84,7 @@ returns-then-not-more g c =
     let taken = more_taken c.args.header i.0 c.loop-number.number line i.1 i.6 i.3 formed in
     let written = written_end (told_of c.args.detail c.args.filter c.args.file.now) None _ _ c.args.header _ _ _ (c.take_line.ensures.header ∙ i.5) (c.in_ok-some.ensures.ok c.args.detail c.args.filter _ _ took) in
     let ends = ends_done (told_of c.args.detail c.args.filter c.args.file.now) _ c.args.header _ _ _ _ taken written in
-    with_text (told_of c.args.detail c.args.filter c.args.file.now) _ _ (Ok c.args.header) (Ok c.in_ok-some.some) (g.W.Write.contents c.args.out.now) (g.W.Write.contents c.finish-then-not-more.new.out) whole ends
+    with_text (told_of c.args.detail c.args.filter c.args.file.now) _ _ (Ok c.args.header) (Ok c.in_ok-some.some) (g.W.Write.contents c.args.out.now) (g.W.Write.contents c.finish.new.out) whole ends
 
 pub loop-number-preserved : goal.loop-number-preserved
 loop-number-preserved g c =

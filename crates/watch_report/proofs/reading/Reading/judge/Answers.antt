@@ -9,6 +9,7 @@ use Rattle.watch_report.specs.Reports.{told_at}
 use Rattle.watch_report.specs.Telling.{IsTelling}
 use Rattle.watch_report.specs.TraceText.{trace_of}
 use Rattle.watch_report.specs.VerdictLines.{counts_after, noted_by}
+use Rattle.watch_report.proofs.OrderLemmas.{warnings_in_order}
 use Rattle.watch_report.proofs.VerdictLemmas.{seen_more, told_more}
 use Rattle.watch_report.proofs.reading.Reading.judge.Goals as goal
 
@@ -23,12 +24,14 @@ returns-clause-ok c = λ detail filter records given has.
     c.in_ok-text.ensures.text detail scheme records given trigger has.past has.telling
     ∙ ap (λ (w : List Warning). told_at detail file scheme newest records w given) c.as_slice-2.ensures.value in
     let telling = subst (λ (w : List Warning). IsTelling detail scheme (newest ∷ records) (w ∷ given) c.at_record.new.self) c.as_slice-2.ensures.value (c.in_ok-text.ensures.telling detail scheme records given has.telling) in
-    let all = subst (λ (s : Scheme). AreWarnings s newest.made (trace_of records) c.in_ok-warnings.warnings.items) has.scheme (c.in_ok-warnings.ensures.warnings (trace_of records) has.follows) in
-    let kept : warnings ≡ kept_by (takes filter) c.in_ok-warnings.warnings.items =
-    c.retain.ensures ∙ ap (λ (f : Filter). kept_by (takes f) c.in_ok-warnings.warnings.items) has.filter_is in
+    let ordered = c.put_in_order.new.warnings.items in
+    let all = subst (λ (s : Scheme). AreWarnings s newest.made (trace_of records) ordered) has.scheme
+    (warnings_in_order _ newest.made (trace_of records) c.in_ok-warnings.warnings.items ordered c.put_in_order.ensures.permutation (c.in_ok-warnings.ensures.warnings (trace_of records) has.follows)) in
+    let kept : warnings ≡ kept_by (takes filter) ordered =
+    c.retain.ensures ∙ ap (λ (f : Filter). kept_by (takes f) ordered) has.filter_is in
     let seen = seen_more detail filter c.args.self.now _ records given newest warnings has refl refl c.record.ensures.scheme
     (c.in_ok-warnings.ensures.ok (trace_of records) has.follows)
-    (told_more filter scheme newest records given warnings _ all kept has.are)
+    (told_more filter scheme newest records given warnings _ all kept c.put_in_order.ensures.order has.are)
     c.in_ok-number.ensures.ok
     (c.in_ok-add.ensures records newest has.past refl refl)
     telling
