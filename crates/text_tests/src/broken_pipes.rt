@@ -73,7 +73,8 @@ const JUDGED: [Judged; 4] = [
 fn broken_pipes_of_watch(rt: HostRuntime) -> Result<(), Fail> {
     let alloc = rt.alloc();
     for row in &JUDGED {
-        let printed = format!(in alloc; "{}{}", row.verdicts, row.last)?;
+        let whole = format!(in alloc; "{}{}", row.verdicts, row.last)?;
+        let printed = whole.as_str();
         for room in 0..printed.len() + 1 {
             for step in [1, usize::MAX] {
                 let mut out = Narrow::new(alloc, step, room, AtEnd::BreaksPipe);
@@ -99,7 +100,8 @@ fn broken_pipes_of_watch(rt: HostRuntime) -> Result<(), Fail> {
 fn writers_of_watch_that_are_full(rt: HostRuntime) -> Result<(), Fail> {
     let alloc = rt.alloc();
     for row in &JUDGED {
-        let printed = format!(in alloc; "{}{}", row.verdicts, row.last)?;
+        let whole = format!(in alloc; "{}{}", row.verdicts, row.last)?;
+        let printed = whole.as_str();
         for room in 0..printed.len() + 1 {
             for at_end in [AtEnd::Fails, AtEnd::TakesNothing] {
                 let mut out = Narrow::new(alloc, 7, room, at_end);

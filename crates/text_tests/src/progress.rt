@@ -63,7 +63,7 @@ fn long_traces_are_told(rt: HostRuntime) -> Result<(), Fail> {
         };
         let mut terminal = Narrow::ample(alloc);
         let mut reader = Progress::new(Filling { times }, &clock, Some(&mut terminal));
-        for _ in 0..times + 2 {
+        for _ in 0..times.saturating_add(2) {
             reader.read(buffer.as_mut_slice())?;
         }
         assert!(rt;
