@@ -4,7 +4,9 @@ pub mod Reasoning
 pub mod WorkedReasons
 pub mod OpenFlushes
 pub mod Tallying
+pub mod Telling
 pub mod Knowing
 pub mod Counted
 pub mod WorkedCauses
+pub mod WorkedStories
 pub mod Apart

@@ -6,4 +6,7 @@ pub mod Tallies
 pub mod Judging
 pub mod Causes
 pub mod Counting
+pub mod Roles
+pub mod Stories
 pub mod WorkedCauses
+pub mod WorkedStories

@@ -4,6 +4,7 @@
 #![tactic(auto)]
 
 mod causes;
+mod choice;
 mod fences;
 mod finding;
 mod findings;
@@ -11,8 +12,11 @@ mod laws;
 mod log;
 mod reason;
 mod reasons;
+mod role;
+mod stories;
 mod tally;
 mod worked_reasons;
+mod worked_stories;
 mod worked_tallies;
 
 pub use causes::Causes;
@@ -22,6 +26,9 @@ pub use laws::{
     tallies_count_their_causes, verdict_has_one_finding,
 };
 pub use reason::Reason;
+pub use role::Role;
+pub use stories::{Part, last_warnings, story};
 pub use tally::{Example, Tally, Verdicts};
 pub use worked_reasons::{worked_claims, worked_fences, worked_frees};
+pub use worked_stories::{worked_roles_before, worked_roles_since, worked_story};
 pub use worked_tallies::{worked_causes, worked_findings};

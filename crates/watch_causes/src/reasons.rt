@@ -131,7 +131,7 @@ fn is_claimed(claim: &Claim, root: u64, entry: &Entry) -> bool
     }
 }
 
-fn begins_claim(made: &Record, token: u64) -> bool
+pub(crate) fn begins_claim(made: &Record, token: u64) -> bool
     ensures { result ≡ begins_claim token made.now }
 {
     match made {
@@ -140,7 +140,7 @@ fn begins_claim(made: &Record, token: u64) -> bool
     }
 }
 
-fn begins_flush_of(made: &Record, warning: &Warning) -> bool
+pub(crate) fn begins_flush_of(made: &Record, warning: &Warning) -> bool
     ensures { result ≡ begins_flush_of (shown_of warning.now) made.now }
 {
     match made {
