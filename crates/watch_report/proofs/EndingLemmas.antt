@@ -44,7 +44,7 @@ ends_unread told BrokenPipe header read tail records start out is at written = a
 ends_unread told BrokenPipeWarned header read tail records start out is at written = absurd is
 ends_unread told NoMemory header read tail records start out is at written = ends_within told header read tail records start out at written
 
-faultless : (header : Header) (lines : List (List ℕ)) (records : List Noted) → AreTaken header lines records → faulty_line (Ok header) lines ≡ None
+pub faultless : (header : Header) (lines : List (List ℕ)) (records : List Noted) → AreTaken header lines records → faulty_line (Ok header) lines ≡ None
 faultless header lines records at =
     let most : nat_lt (length lines) (length lines) ≡ false = grind (arith, nat_tests) in
     ap (λ n. option_map (λ k. k + 2) (cond (nat_lt n (length lines)) (Some n) None)) (all_formed header lines records at)
@@ -84,7 +84,7 @@ ends_at_line told NoMemory header number read tail line records start out e at f
 
 -- ---- at a line that has no form
 
-faulty_at : (header : Header) (read tail : List (List ℕ)) (line : List ℕ) (records : List Noted) → AreTaken header read records → has_no_form header line ≡ true
+pub faulty_at : (header : Header) (read tail : List (List ℕ)) (line : List ℕ) (records : List Noted) → AreTaken header read records → has_no_form header line ≡ true
     → faulty_line (Ok header) (read ++ line ∷ tail) ≡ Some (length read + 2)
 faulty_at header read tail line records at none =
     let place : position_or_len (has_no_form header) (read ++ line ∷ tail) ≡ length read = omega (arith, at.formed (line ∷ tail), stops (has_no_form header) line tail none) in
@@ -108,7 +108,7 @@ wrong_told header number read tail line records Says e at none says =
     subst (λ (wrong : Option ℕ). Says wrong (records_of header (read ++ line ∷ tail))) (sym (faulty_at header read tail line records at none ∙ ap Some (sym e)))
     (front_told header read tail line records (Says (Some number)) at none says)
 
-fault_there : (header : Header) (number : ℕ) (read tail : List (List ℕ)) (line : List ℕ) (fault : LineFault) → number ≡ length read + 2 → fault_of header line ≡ Some fault
+pub fault_there : (header : Header) (number : ℕ) (read tail : List (List ℕ)) (line : List ℕ) (fault : LineFault) → number ≡ length read + 2 → fault_of header line ≡ Some fault
     → fault_in (Ok header) (read ++ line ∷ tail) number ≡ Some fault
 fault_there header number read tail line fault e is =
     ap (fault_of header) (line_at read tail line (number - 2) (omega (arith, e))) ∙ is

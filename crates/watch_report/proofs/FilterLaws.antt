@@ -33,7 +33,7 @@ told_is_given scheme records given = (
   λ are. (given, are.0, sym (all_taken given), are.1),
 )
 
-taken_at : (filter : Filter) (scheme : Scheme) (newest : Record) (trace : Trace) (warnings : List Warning) → AreWarnings scheme newest trace warnings → AreTakenAt filter scheme newest trace (kept_by (takes filter) warnings)
+pub taken_at : (filter : Filter) (scheme : Scheme) (newest : Record) (trace : Trace) (warnings : List Warning) → AreWarnings scheme newest trace warnings → AreTakenAt filter scheme newest trace (kept_by (takes filter) warnings)
 taken_at filter scheme newest trace warnings are =
     record {
       each = λ w among.

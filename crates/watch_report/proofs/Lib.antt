@@ -26,12 +26,18 @@ mod ReadLemmas
 mod EndingLemmas
 pub mod TriggerLaws
 pub mod FilterLaws
+mod PrefixLemmas
+mod ExplainLemmas
+mod NoFeeds
+pub mod StoryLaws
 pub mod WorkedReports
 pub mod WorkedFilters
+pub mod WorkedStories
 mod TextLemmas
 mod NoteLemmas
 mod RunLemmas
 pub mod StandingLemmas
 mod BlockLemmas
+mod StoryLemmas
 pub mod FaultLaws
 pub mod WorkedFaults

@@ -36,7 +36,7 @@ plain_digit radix c small h =
     let number : (c ≡ 35 → ⊥) = λ e. (let bad : digit_value 35 < radix = subst (λ (x : ℕ). digit_value x < radix) e h in omega arith) in
     (ne_eqb c 32 space, rw (ne_eqb c 64 at) (ne_eqb c 35 number))
 
-plain_digits : (radix : ℕ) (ds : List ℕ) → radix ≤ 16 → AllDigits radix ds → IsPlain ds
+pub plain_digits : (radix : ℕ) (ds : List ℕ) → radix ≤ 16 → AllDigits radix ds → IsPlain ds
 plain_digits radix [] small h = tt
 plain_digits radix (c ∷ cs) small h = (plain_digit radix c small h.0, plain_digits radix cs small h.1)
 

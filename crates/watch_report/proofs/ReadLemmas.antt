@@ -87,7 +87,7 @@ line_text false left mid rest read line at next = ([], last_text left mid rest r
 pub none_taken : (header : Header) → AreTaken header [] []
 none_taken header = record { formed = λ after. omega arith; are = λ after. refl }
 
-passes : {X : Type 0} (test : X → Bool) (x : X) (xs : List X) → test x ≡ false → position_or_len test (x ∷ xs) ≡ 1 + position_or_len test xs
+pub passes : {X : Type 0} (test : X → Bool) (x : X) (xs : List X) → test x ≡ false → position_or_len test (x ∷ xs) ≡ 1 + position_or_len test xs
 passes test x xs e = ap (λ b. cond (not b) (1 + position_or_len test xs) 0) e
 
 pub stops : {X : Type 0} (test : X → Bool) (x : X) (xs : List X) → test x ≡ true → position_or_len test (x ∷ xs) ≡ 0

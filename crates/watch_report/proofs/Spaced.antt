@@ -25,3 +25,8 @@ four_pieces o a b c d x y z w e f g h =
 pub five_pieces : (o a b c d p x y z w v : List ℕ) → x ≡ o ++ a → y ≡ x ++ b → z ≡ y ++ c → w ≡ z ++ d → v ≡ w ++ p → v ≡ o ++ (a ++ b ++ c ++ d ++ p)
 five_pieces o a b c d p x y z w v e f g h i =
     i ∙ ap (λ (t : List ℕ). t ++ p) (four_pieces o a b c d x y z w e f g h) ∙ append_assoc o (a ++ b ++ c ++ d) p
+
+pub three_pieces : (o a b c x y z : List ℕ) → x ≡ o ++ a → y ≡ x ++ b → z ≡ y ++ c → z ≡ o ++ (a ++ b ++ c)
+three_pieces o a b c x y z e f g =
+    g ∙ ap (λ (t : List ℕ). t ++ c) (f ∙ ap (λ (t : List ℕ). t ++ b) e)
+    ∙ append_assoc (o ++ a) b c ∙ append_assoc o a (b ++ c) ∙ ap (λ (t : List ℕ). o ++ t) (sym (append_assoc a b c))

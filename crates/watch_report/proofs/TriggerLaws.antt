@@ -54,13 +54,16 @@ is_free Free = true
 is_free _ = false
 
 -- at a record of which nothing is printed none is given: it would be any verdict
+pub none_given : (scheme : Scheme) (verdict : Verdict) (newest : Record) (records : List Noted) (hart : ℕ) (x : Translation) → trigger_of records newest ≡ None → IsGiven scheme verdict newest (trace_of records) hart x → ⊥
+none_given scheme verdict newest records hart x none given =
+    let by : (other : Verdict) → other ≡ verdict =
+    λ other. ap (printed_verdict other) (sym none) ∙ given_printed scheme verdict newest records hart x other given in
+    true≢false (ap is_free (by Free ∙ sym (by Used)))
+
 pub no_warning : (scheme : Scheme) (newest : Record) (records : List Noted) (warnings : List Warning) → AreWarnings scheme newest (trace_of records) warnings → trigger_of records newest ≡ None → warnings ≡ []
 no_warning scheme newest records [] are none = refl
 no_warning scheme newest records (w ∷ warnings) are none =
-    let given = (are.each w (0, omega arith, refl)).0.given in
-    let by : (other : Verdict) → other ≡ w.verdict =
-    λ other. ap (printed_verdict other) (sym none) ∙ given_printed scheme w.verdict newest records w.hart (shown_of w) other given in
-    absurd (true≢false (ap is_free (by Free ∙ sym (by Used))))
+    absurd (none_given scheme w.verdict newest records w.hart (shown_of w) none (are.each w (0, omega arith, refl)).0.given)
 
 pub same_verdict : (scheme : Scheme) (newest : Record) (records : List Noted) (warnings : List Warning) (trigger : Trigger) (w : Warning) → AreWarnings scheme newest (trace_of records) warnings → trigger_of records newest ≡ Some trigger
     → Contains warnings w → w.verdict ≡ verdict_of trigger

@@ -95,7 +95,7 @@ some_given filter scheme newest trace warnings are some =
     let from = from_kept (takes filter) warnings first.0 first.1 in
     (first.0.verdict, first.0.hart, shown_of first.0, (are.each first.0 from.0).0, from.1)
 
-given_is_some : (filter : Filter) (scheme : Scheme) (newest : Record) (trace : Trace) (warnings : List Warning) → AreWarnings scheme newest trace warnings → GivesAt filter scheme newest trace
+pub given_is_some : (filter : Filter) (scheme : Scheme) (newest : Record) (trace : Trace) (warnings : List Warning) → AreWarnings scheme newest trace warnings → GivesAt filter scheme newest trace
     → 0 < length (kept_by (takes filter) warnings)
 given_is_some filter scheme newest trace warnings are gives =
     let w = are.all gives.0 gives.1 gives.2 gives.3 in

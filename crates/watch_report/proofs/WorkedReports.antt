@@ -38,7 +38,7 @@ none_at_first scheme of address =
       once = λ i j d before among. absurd (omega (arith, among));
     }
 
-gives_none : (scheme : Scheme) (of address : ℕ) → GivesVerdict no_filter scheme (Use of address ∷ []) → ⊥
+pub gives_none : (scheme : Scheme) (of address : ℕ) → GivesVerdict no_filter scheme (Use of address ∷ []) → ⊥
 gives_none scheme of address (inl (verdict, hart, x, due, passes)) = nothing_given scheme verdict of address hart x due.given
 gives_none scheme of address (inr nothing) = nothing
 

@@ -24,8 +24,13 @@ pub mod Telling
 pub mod Output
 pub mod Reading
 pub mod Ending
+pub mod StoryTexts
+pub mod Explaining
+pub mod Prefix
+pub mod ReadStories
 pub mod WorkedReports
 pub mod WorkedFilters
+pub mod WorkedStories
 pub mod LineForms
 pub mod LineFaults
 pub mod ReasonTexts

@@ -5,6 +5,8 @@
 //! cause as soon as its record is read, and a last line with counts, all of the verdicts that a
 //! filter takes. Of what was read it keeps what the watch keeps, the notes, the lines of records, and,
 //! where they are told, the causes.
+//!
+//! `explain_trace` writes the story of one verdict: a trace of few records that alone gives it.
 #![tactic(auto)]
 
 mod blocks;
@@ -14,6 +16,7 @@ mod counting;
 mod counts;
 mod detail;
 mod emit;
+mod explain;
 mod fault;
 mod fields;
 mod filter;
@@ -32,12 +35,15 @@ mod numbers;
 mod order;
 mod output;
 mod past;
+mod prefix;
 mod push;
 mod reading;
 mod reading_fault;
 mod record;
 mod report;
 mod retry;
+mod story_laws;
+mod story_text;
 mod telling;
 mod texts;
 mod trigger;
@@ -49,11 +55,13 @@ mod worked_faults;
 mod worked_filters;
 mod worked_lines;
 mod worked_reports;
+mod worked_stories;
 
 pub use cause_line::{NumberedTally, in_order, push_block, push_total};
 pub use counts::{VerdictCounts, push_summary};
 pub use detail::Detail;
 pub use emit::push_record;
+pub use explain::explain_trace;
 pub use fault::ReportFault;
 pub use filter::{Filter, Kind, read_filter};
 pub use filter_laws::{
@@ -70,6 +78,7 @@ pub use line_fault::{LineFault, LineReason};
 pub use line_form::{Field, LineForm};
 pub use report::report_trace;
 pub use retry::{read_retrying, write_retrying};
+pub use story_laws::story_reads_as_its_records;
 pub use warning::{Trigger, Warning, push_warning};
 pub use worked_cause_lines::{worked_causes, worked_orders, worked_totals};
 pub use worked_faults::{
@@ -86,3 +95,4 @@ pub use worked_lines::{
 pub use worked_reports::{
     refused_endings, refused_texts, worked_endings, worked_texts, worked_verdict_orders,
 };
+pub use worked_stories::{refused_explanations, worked_explanations, worked_roles, worked_story};

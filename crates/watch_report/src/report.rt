@@ -20,7 +20,7 @@ use std::alloc::Global;
 use std::io::{BufRead, BufReader, Read, Write};
 
 /// What is told of a first line that is no header.
-fn first_line_fault(line: &[u8]) -> ReportFault
+pub(crate) fn first_line_fault(line: &[u8]) -> ReportFault
     requires { header_in (fields_of line.now) ≡ None }
     ensures { IsAtLine 1 (header_fault line.now) (Ok false) result }
 {
@@ -35,7 +35,7 @@ fn first_line_fault(line: &[u8]) -> ReportFault
 }
 
 /// What is told of a line that has no form, by how the last lines were written.
-fn fault_of_line(
+pub(crate) fn fault_of_line(
     header: Header,
     number: u64,
     line: &[u8],
