@@ -135,8 +135,10 @@ judge 'the version' "$(cat "$root/BUILD")" "$(bare "$root/bin/svsim" --version)"
 judge 'the tour' 3 "$(cd / && bare "$root/bin/svsim" tour | grep -c '^\$ svsim [a-z]* /')"
 options=$(bare "$root/bin/svsim" help watch | sed -n 's/^  \(--[a-z]*\) .*/\1/p' | tr '\n' ' ')
 judge 'the options of watch' '--all --quiet --hart --page --kind ' "$options"
+tests=$(bare "$root/bin/svsim" help explain | sed -n 's/^  \(--[a-z]*\) .*/\1/p' | tr '\n' ' ')
+judge 'the options of explain' '--hart --page --kind ' "$tests"
 commands=$(bare "$root/bin/svsim" help | sed -n 's/^  \([a-z]*\) .*/\1/p' | tr '\n' ' ')
-judge 'the commands' 'run live walk stale show draw check watch tour help version ' "$commands"
+judge 'the commands' 'run live walk stale show draw check watch explain tour help version ' "$commands"
 
 # README's first two commands and the links of all pages, in the folder of these: prints what is wrong.
 python=$(python3 -c 'import sys; print(sys.executable)')
@@ -175,10 +177,10 @@ unset PKG_CONFIG_PATH
 if has man; then
     judge 'the manual page' '' "$(man --warnings -l "$root/share/man/man1/svsim.1" 2>&1 >/dev/null)"
     for command in $commands; do
-        judge "$command in the manual page" 1 "$(man -l "$root/share/man/man1/svsim.1" 2>/dev/null | grep -c -E "^   $command( [A-Z]+)?\$")"
+        judge "$command in the manual page" 1 "$(man -l "$root/share/man/man1/svsim.1" 2>/dev/null | grep -c -E "^   $command( [A-Z]+)*\$")"
     done
     for option in $options; do
-        judge "$option in the manual page" 2 "$(man -l "$root/share/man/man1/svsim.1" 2>/dev/null |
+        judge "$option in the manual page" "$(case $tests in *"$option "*) echo 4 ;; *) echo 2 ;; esac)" "$(man -l "$root/share/man/man1/svsim.1" 2>/dev/null |
             grep -c -E -- "(^       |\[|\|)$option")"
     done
 else

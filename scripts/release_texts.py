@@ -93,7 +93,7 @@ def statuses():
 
 
 def manual(version, date):
-    commands = re.findall(r"(?m)^  ([a-z]+) ([A-Z]*) *(.*)$", said())
+    commands = re.findall(r"(?m)^  ([a-z]+) ?([A-Z ]*?) {2,}(.*)$", said())
     yield f'.TH SVSIM 1 {date} "svsim {version}" Melissaledge'
     yield f".SH NAME\nsvsim \\- {roff(title())}"
     yield from synopsis(commands)

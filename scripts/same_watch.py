@@ -2,7 +2,8 @@
 """Compares the two programs that judge traces: same_watch.py SVSIM SVSIM_WATCH
 
 On each trace of examples/ and of the lists of cases `svsim watch` and `svsim_watch` write the same, and end with the same status:
-without an option, with `--all`, with `--quiet`, and with tests of the verdicts. The last line is `N passed, M failed`.
+without an option, with `--all`, with `--quiet`, and with tests of the verdicts. So do `svsim explain` and `svsim_watch --explain` on the
+first line, and on the lines of the first and of the last verdict. The last line is `N passed, M failed`.
 """
 import glob, os, re, subprocess, sys, tempfile
 from cases import cases, read
@@ -24,14 +25,30 @@ def answer(words, folder):
     return done.returncode, done.stdout, done.stderr
 
 
+def lines_of(report):
+    """The first line, and those of the first and of the last verdict that `--all` reports."""
+    found = re.findall(rb"(?m)^FILE:(\d+): ", report)
+    return list(dict.fromkeys(["1", "2", "999999", *(line.decode() for line in found[:1] + found[-1:])]))
+
+
+def pairs_of(svsim, svsim_watch, folder):
+    """The words for `svsim_watch`, what `svsim` answers to the same, and what it answers."""
+    for words in OPTIONS:
+        yield words, answer([svsim, "watch", *words, "FILE"], folder), answer([svsim_watch, *words, "FILE"], folder)
+    for line in lines_of(answer([svsim, "watch", "--all", "FILE"], folder)[1]):
+        for tests in ([], ["--hart", "1"], ["--page", "1000", "--kind", "claim"]):
+            words = ["--explain", line, *tests]
+            yield words, answer([svsim, "explain", *tests, "FILE", line], folder), answer([svsim_watch, *words, "FILE"], folder)
+
+
 def main(svsim, svsim_watch):
     passed = failed = 0
     for text in traces():
         with tempfile.TemporaryDirectory() as folder:
             with open(os.path.join(folder, "FILE"), "w", newline="", encoding="utf-8") as file:
                 file.write(text)
-            pairs = [(answer([svsim, "watch", *words, "FILE"], folder), answer([svsim_watch, *words, "FILE"], folder)) for words in OPTIONS]
-        for words, (wanted, got) in zip(OPTIONS, pairs):
+            pairs = list(pairs_of(svsim, svsim_watch, folder))
+        for words, wanted, got in pairs:
             passed, failed = passed + (got == wanted), failed + (got != wanted)
             if got != wanted:
                 print(f"FAILED {' '.join(words)} {text[:200]!r}: {got}, not {wanted}")

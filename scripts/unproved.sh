@@ -19,7 +19,7 @@ wait_for() {
 
 # Copies what a command reads: all of a trace, else no more than it takes to see that a file is too large.
 copy_of() {
-    if [ "$1 $2" = "watch -" ]; then cat; elif [ "$1" = watch ]; then cat <"$2"; else head -c $((most_bytes + 1)) <"$2"; fi
+    if ! is_of_trace; then head -c $((most_bytes + 1)) <"$1"; elif [ "$1" = - ]; then cat; else cat <"$1"; fi
 }
 
 # The folder that holds the answers on a file.
@@ -46,18 +46,27 @@ take_apart() {
     done
 }
 
-# The words of a case, a line each: the command, behind a digit in the tour, and the options of watch.
+# The words of a case, a line each: the command, behind a digit in the tour, and what else watch and explain take.
 words_of() {
     case $1 in
     watch*with*) printf 'watch\n%s%s{}\n' "${option:+--$option$newline}" "$tests" ;;
     watchall | watchquiet) printf 'watch\n--%s\n{}\n' "${1#watch}" ;;
+    explain*) printf 'explain\n%s{}\n%s\n' "$tests" "$line" ;;
     *) printf '%s\n{}\n' "${1#[0-9]}" ;;
+    esac
+}
+
+# The same for the smaller program, whose words have no command.
+small_words_of() {
+    case $1 in
+    explain*) printf -- '--explain\n%s\n%s{}\n' "$line" "$tests" ;;
+    *) words_of "$1" | sed 1d ;;
     esac
 }
 
 # What a build answers on a file: all that suits it, or what was asked for alone, where it is of some verdicts.
 cases_of() {
-    if [ -n "$tests" ]; then echo "$asked"; else suiting "$command" "$1"; fi
+    if [ -n "$tests$line" ]; then echo "$asked"; else suiting "$command" "$1"; fi
 }
 
 # Builds the program without a proof, and has it answer these cases on a file: CASE FILE [CASE FILE ..]
@@ -74,14 +83,14 @@ build() {
     try svsim 'one to two minutes on 4 cores, 2 GB'
 }
 
-# The same of `watch` alone, by the smaller program, whose words have no command.
+# The same of a trace, by the smaller program.
 build_watch() {
     cases=$own/cases
     mkdir "$cases"
     names=$(cases_of "$1")
     for each in $names; do
         cp "$1" "$cases/$each"
-        words_of "$each" | sed 1d >"$cases/$each.args"
+        small_words_of "$each" >"$cases/$each.args"
     done
     try svsim_watch '20 to 40 seconds on 4 cores, 0.7 GB'
 }
@@ -103,12 +112,13 @@ forget_oldest() {
 }
 
 # The build read a copy of the file under the name `case`. What it printed is given the name that the caller gave, as the program prints
-# it: before the line's number in a report of watch as it is, at the head of a line of check with `?` for each control character and each
+# it: before the line's number in a report of watch and in the comments of explain as it is, at the head of a line of check with `?` for each control character and each
 # that sets the direction (crates/checks/src/shown.rt), and in a picture its last component, of 60 characters at most, with `?` for what
 # is not ASCII (crates/draw/src/heading.rt).
 named() {
     case $1 in
     watch) NAME=$file awk '{ if ($0 ~ /^case:[0-9]+: /) print ENVIRON["NAME"] substr($0, 5); else print }' ;;
+    explain) NAME=$file awk '{ if ($0 ~ /^# case:[0-9]+: /) print "# " ENVIRON["NAME"] substr($0, 7); else print }' ;;
     check)
         NAME=$(printf %s "$file" | tr '\000-\037\177' '?' | LC_ALL=C sed 's/\xc2[\x80-\x9f]/?/g; s/\xd8\x9c/?/g
             s/\xe2\x80[\x8e\x8f\xaa-\xae]/?/g; s/\xe2\x81[\xa6-\xa9]/?/g') awk '
@@ -123,19 +133,19 @@ named() {
     esac
 }
 
-# The same of the line on standard error, which begins with the file's name at a wrong line of a trace.
+# The same of the line on standard error, which begins with the file's name where it is of a line of a trace.
 named_fault() {
     case $1 in
-    watch) NAME=$file awk '{ if (index($0, "case:") == 1) print ENVIRON["NAME"] substr($0, 5); else print }' ;;
+    watch | explain) NAME=$file awk '{ if (index($0, "case:") == 1) print ENVIRON["NAME"] substr($0, 5); else print }' ;;
     *) cat ;;
     esac
 }
 
 # Prints the answer that was asked for, of those in a folder.
 print_answer() {
-    if [ "$command" = watch ]; then
-        # That nobody reads on is no fault of watch.
-        (trap '' PIPE && LC_ALL=C && export LC_ALL && named watch <"$1/$asked.out" 2>"$own/unread") || grep -q 'Broken pipe' "$own/unread" || {
+    if is_of_trace; then
+        # That nobody reads on is no fault of these.
+        (trap '' PIPE && LC_ALL=C && export LC_ALL && named "$command" <"$1/$asked.out" 2>"$own/unread") || grep -q 'Broken pipe' "$own/unread" || {
             cat "$own/unread" >&2
             exit 4
         }
@@ -160,16 +170,16 @@ begin() {
 
 answer() {
     begin
-    asked=$command$option${tests:+with$(printf %s "$tests" | sha256sum | cut -c1-16)}
-    if ! { copy_of "$command" "$file" >"$own/given"; } 2>/dev/null; then refuse "cannot read $file" "is it there, and yours to read?"; fi
-    if [ "$command" != watch ] && [ "$(wc -c <"$own/given")" -gt $most_bytes ]; then
+    asked=$command$option$line${tests:+with$(printf %s "$tests" | sha256sum | cut -c1-16)}
+    if ! { copy_of "$file" >"$own/given"; } 2>/dev/null; then refuse "cannot read $file" "is it there, and yours to read?"; fi
+    if ! is_of_trace && [ "$(wc -c <"$own/given")" -gt $most_bytes ]; then
         refuse 'file too large' "a file has at most $most_bytes bytes"
     fi
     if [ "$command" = live ] || [ "$file" = - ]; then store=$own/answers; fi
     folder=$(answers_on "$own/given")
     if [ -f "$folder/$asked.status" ]; then print_answer "$folder"; fi
     whole=yes
-    if [ "$command" = watch ]; then
+    if is_of_trace; then
         build_watch "$own/given"
         take_apart "$folder" $names
         # Where the smaller program could not read, write or find memory, the whole one tells it.

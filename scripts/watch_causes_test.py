@@ -1,5 +1,5 @@
 #!/usr/bin/env python3
-"""What watch_causes.py and watch_explain.py say of traces that were worked out by hand: watch_causes_test.py PROGRAM, which stands for ./svsim.
+"""What watch_causes.py and `svsim explain` say of traces that were worked out by hand: watch_causes_test.py PROGRAM, which stands for ./svsim.
 
 Causes: the small kernel of examples/watch/kernel, right and with each of its mistakes (docs/C.md has them), and traces of a few records, one
 for each reason and each reach. Each verdict of `watch` has to be in one finding. Reports: of these and of all traces of examples/ and of the
@@ -9,7 +9,6 @@ The last line is `N passed, M failed`.
 import os, subprocess, sys, tempfile
 from collections import Counter
 from same_watch import traces
-from watch_explain import story_of
 from watch_causes import BY_ASID, KINDS, NO_FENCE, NO_FLUSH, NOT_DONE, NOT_THIS_HART, OTHER_ASID, OTHER_PAGE, TOP, causes_of
 from trace_lines import access, bare, claim, fence, given_back, given_out, header, kernel_leaf, leaf, line_of, pointer, remote_fence, satp, store
 
@@ -72,30 +71,28 @@ ROWS = [
     ("a page of the kernel under an ASID", [BEGIN, fence(0, None, 0), *remote_fence(0, 2, 2, 0, 0, 1), END],
      [(True, "claim", BY_ASID, BOTH)], kernel_leaf(0x200)),
 ]
-# The records behind `unmapped`, and the lines of the story of the first verdict on hart 1: the number of each, and what is told. Lines 1 to 10
-# are `unmapped`: 5 maps the page, 6 and 7 write satp, 8 and 9 fence, 10 unmaps it.
-LEAVES_IT, FLUSHES, CLEAN = "hart 1 leaves the space, and may keep the page", "a flush of the page begins", "claim: the flush returns"
-MAPPED, STALE, ELSEWHERE = "the page is mapped, or a table above it", "stale from here on", "a fence that is not for hart 1"
+# The records behind `unmapped`, and the lines that `svsim explain` tells of the first verdict on hart 1: the number of each, and what it says.
+# Lines 1 to 10 are `unmapped`: 2, 3 and 5 map the page, 6 and 7 write satp, 8 and 9 fence, 10 unmaps it.
+WAY, STALE, TAKES = "a word on the way to the page", "stale from here on", "hart 1 fences the page"
+LEAVES_IT, FLUSHES, CLEAN = "hart 1 leaves the address space, and may keep the page", "a flush begins", "the flush returns"
+ELSEWHERE, NOT_KNOWN, BACK = "a fence, not for hart 1", "a remote fence for the page, not known to be done", "frames are given back"
+BEGINNING = {2: WAY, 3: WAY, 5: WAY, 7: "hart 1 enters the address space", 9: TAKES, 10: STALE}
 STORIES = [
-    ("not for the hart", [BEGIN, fence(0, PAGE, 1), END, given_back(0x200), access(1, PAGE)],
-     {11: FLUSHES, 12: ELSEWHERE, 13: CLEAN, 14: "free: its frame is given back", 15: "use: the hart uses the page"}),
+    ("not for the hart", [BEGIN, fence(0, PAGE, 1), END, given_back(0x200), access(1, PAGE)], {11: FLUSHES, 12: ELSEWHERE, 13: CLEAN}),
     ("another ASID, other pages, not waited for",
      [BEGIN, *remote_fence(2, 2, 2, 0, 0, 2), fence(0), line_of("r", 0, 3, 2, 2 * PAGE, PAGE, None), line_of("r", 0, 4, 2, 0, 0, None), END],
-     {11: FLUSHES, 12: "a fence of asid 2, not 1", 14: ELSEWHERE, 15: "a fence of other pages than 1000",
-      16: "a fence that is not known to be done", 17: CLEAN}),
+     {11: FLUSHES, 12: "a remote fence, not for asid 1", 14: ELSEWHERE, 15: "a remote fence, not for page 1000", 16: NOT_KNOWN, 17: CLEAN}),
     # mapped again just so, the page is not stale: it is from 13 on
     ("left, mapped and unmapped again", [satp(1, OTHER, 2), store(LEAVES, 1, leaf(0x200)), store(LEAVES, 1), given_out(0x200)],
-     {5: None, 10: None, 11: LEAVES_IT, 12: MAPPED, 13: STALE, 14: "reuse: its frame is given out again"}),
-    ("left later", [satp(1, OTHER, 2), given_back(0x200)], {12: "free: its frame is given back"}),
+     {10: WAY, 11: LEAVES_IT, 12: WAY, 13: STALE, 14: "frames are given out"}),
+    ("left later", [satp(1, OTHER, 2), given_back(0x200)], {12: BACK}),
     ("done later", [BEGIN, fence(0), line_of("r", 0, 2, 2, 0, 0, None), END, line_of("e", 0, 2)],
-     {11: FLUSHES, 12: ELSEWHERE, 13: "a fence that is not known to be done", 14: CLEAN}),
+     {11: FLUSHES, 12: ELSEWHERE, 13: NOT_KNOWN, 14: CLEAN}),
     # a table is taken out and comes back; the other root has the same ASID
     ("mapped by a pointer", [store(LEAVES, 1, leaf(0x200)), store(MIDDLE, 0), store(MIDDLE, 0, pointer(LEAVES)), satp(1, OTHER), store(LEAVES, 1), given_back(0x200)],
-     {5: None, 10: None, 13: MAPPED, 14: LEAVES_IT, 15: STALE, 16: "free: its frame is given back"}),
-    ("fences of others are counted", [fence(2), fence(0), given_back(0x200)],
-     {13: "free: its frame is given back", 0: "and 2 fences since that were not for hart 1"}),
+     {3: None, 5: None, 10: None, 11: WAY, 13: WAY, 14: LEAVES_IT, 15: STALE, 16: BACK}),
+    ("fences of others are left out", [fence(2), fence(0), given_back(0x200)], {13: BACK}),
 ]
-BEGINNING = {5: MAPPED, 7: "hart 1 enters the space", 9: "hart 1 drops all that it holds of the page", 10: STALE}
 
 
 def answered(program, lines, answer):
@@ -106,9 +103,13 @@ def answered(program, lines, answer):
 
 
 def story(program, path, lines):
-    """What is told of the first verdict on hart 1, by the number of the line; 0 stands for what has none."""
-    told = next(told for finding, told in (story_of(program, path, number, 1) for number in range(1, lines + 1)) if finding)
-    return {int(line[:2].strip() or 0): line.rsplit("    ", 1)[-1].strip() for line in told}
+    """What is told of the first verdict on hart 1, by the number of the line."""
+    for number in range(2, lines + 1):
+        done = subprocess.run([program, "explain", path, str(number), "--hart", "1"], capture_output=True, text=True)
+        if done.returncode == 0:
+            told = [line.split(":", 2) for line in done.stdout.splitlines()[2:] if line[0] == "#"]
+            return {int(number): text.strip() for _, number, text in told}
+    return {}
 
 
 def is_whole(causes, last):

@@ -134,17 +134,40 @@ for word in 'hart 64' 'hart a' 'hart -1' 'hart 00000000000000001' 'hart 1e' 'pag
     refuses "watch --$word file.trace"
     refuses "watch --${word% *}=${word#* } file.trace"
 done
+for word in --all --quiet; do
+    refuses "explain $word file.trace 7"
+    refuses "explain file.trace 7 $word"
+done
+for word in '--hart 1' '--page 1' '--kind use'; do
+    refuses "explain $word file.trace"
+    refuses "explain file.trace 7 ${word% *}"
+    refuses "explain ${word% *} file.trace 7"
+    refuses "explain $word file.trace 7 $word"
+done
+for word in 0 000 -1 +1 1e 0x1 a 7: 1.5 18446744073709551616 000018446744073709551616 100000000000000000000; do
+    refuses "explain file.trace $word"
+    refuses "explain -- file.trace $word"
+done
+refuses 'explain 7'
+refuses 'explain file.trace'
+refuses 'explain 7 file.trace'
+refuses 'explain file.trace 7 8'
+refuses 'explain file.trace --line 7'
+refuses 'explain file.trace -- --hart'
+for command in run live walk stale show draw check watch; do refuses "$command file.trace 7"; done
 refuses 'watch --all --quiet file.trace'
 refuses '--quiet watch file.trace --all'
 refuses 'watch --everything file.trace'
 says 'no file' 2 "run $own/none" "svsim: cannot read $own/none"
 says 'a folder' 2 "watch $own" "svsim: cannot read $own"
+says 'a folder to explain' 2 "explain $own 7" "svsim: cannot read $own"
+says 'no file to explain' 2 "explain $own/none 7" "svsim: cannot read $own/none"
 says 'a dash for a scenario' 2 'run -' 'svsim: cannot read -'
 for word in help -h --help; do
     says "$word" 0 "$word" ''
-    judge "$word names each command" 8 "$(grep -c -E '^  (run|live|walk|stale|show|draw|check|watch) [A-Z]+ +[a-z]' "$own/out")"
+    judge "$word names each command" 9 "$(grep -c -E '^  (run|live|walk|stale|show|draw|check|watch|explain) [A-Z ]+ [a-z]' "$own/out")"
 done
-for word in run live walk stale show draw check watch; do
+for word in run live walk stale show draw check watch explain; do
     says "help $word" 0 "help $word" ''
     judge "help $word has an example that is there" 1 "$(
         for file in $(sed -n "s/^  svsim $word \([^ ]*\).*/\1/p" "$own/out"); do [ -e "$top/$file" ] && echo "$file"; done | wc -l)"
@@ -154,6 +177,8 @@ for word in run live walk stale show draw check watch; do
 done
 says 'help of watch' 0 'help watch' ''
 judge 'help of watch has its options' '--all --quiet --hart --page --kind ' "$(sed -n 's/^  \(--[a-z]*\) .*/\1/p' "$own/out" | tr '\n' ' ')"
+says 'help of explain' 0 'help explain' ''
+judge 'help of explain has its options' '--hart --page --kind ' "$(sed -n 's/^  \(--[a-z]*\) .*/\1/p' "$own/out" | tr '\n' ' ')"
 says 'help of no command' 2 'help rnu' 'svsim: usage: svsim COMMAND FILE'
 says 'the version' 0 --version ''
 judge 'the version names the toolchain' one "$(tail -n 1 "$own/out")"
@@ -170,6 +195,7 @@ helps 'a letter of run' "r $own/file.toml" 'perhaps svsim run; svsim help lists 
 helps 'no command at all' "xyzzyq $own/file.toml" 'svsim help lists the commands'
 helps 'a command without a file' run 'svsim help lists the commands'
 helps 'watch without a file' watch 'svsim help watch tells what it takes'
+helps 'explain without a line' "explain $own/file.toml" 'svsim help explain tells what it takes'
 helps 'both options' "watch --all --quiet $own/file.toml" 'svsim help watch tells what it takes'
 helps 'a slip behind an option' "--all wach $own/file.toml" 'perhaps svsim watch; svsim help lists the commands'
 helps 'a slip behind an option with a value' "--hart 1 wach $own/file.toml" 'perhaps svsim watch; svsim help lists the commands'
@@ -389,6 +415,32 @@ judge 'it is handed over' 'a trace that is handed over' "$(cat "$own/given")"
 judge 'is built each time' $((before + 4)) "$(builds)"
 judge 'an option of watch is not of the other commands' 'line of run' "$(answer)"
 
+# explain: each call is a build of the smaller program of its own, and its answer is kept
+explains() { judge "$1" "line of watch $2" "$(cd "$own" && "$svsim" $1 2>/dev/null)"; }
+echo 'a trace that is explained' >"$own/file.trace"
+before=$(builds)
+explains 'explain file.trace 7' '--explain 7'
+explains "explain file.trace $(printf '%0300d' 7)" '--explain 7'
+explains 'explain -- file.trace 7' '--explain 7'
+explains 'explain file.trace 8' '--explain 8'
+explains 'explain --hart 1 file.trace 7' '--explain 7 --hart 1'
+explains 'explain file.trace --kind use 7 --hart=1' '--explain 7 --kind use --hart 1'
+explains 'explain file.trace 7' '--explain 7'
+judge 'four calls are builds' $((before + 4)) "$(builds)"
+judge 'a story from standard input' 'line of watch --explain 7' "$("$svsim" explain - 7 <"$own/file.trace" 2>/dev/null)"
+judge 'it is handed over' 'a trace that is explained' "$(cat "$own/given")"
+echo 'case:7: no such verdict' >"$own/trouble"
+echo 1 >"$own/watch_status"
+echo 'a trace without a verdict there' >"$own/file.trace"
+judge 'no such verdict, with the name of the file' "$own/file.trace:7: no such verdict" "$("$svsim" explain "$own/file.trace" 7 2>&1 >/dev/null | tail -n 1)"
+judge 'its status' 1 "$("$svsim" explain "$own/file.trace" 7 >/dev/null 2>&1; echo $?)"
+: >"$own/trouble"
+echo 6 >"$own/watch_status"
+echo 'a trace whose story the smaller program can not hold' >"$own/file.trace"
+judge 'the whole program tells it' 'line of explain --hart 1 {} 7 ' "$("$svsim" explain "$own/file.trace" 7 --hart 1 2>/dev/null)"
+judge 'behind the smaller one' 'svsim_watch svsim' "$(tail -n 2 "$own/builds" | tr '\n' ' ' | sed 's/ $//')"
+echo 0 >"$own/watch_status"
+
 # The status of each is kept too, and what the smaller program could not answer is left to the whole one
 echo 1 >"$own/status_of_watchall"
 echo 'a trace whose verdicts differ' >"$own/file.trace"
@@ -431,6 +483,12 @@ judge 'a report that nobody reads: nothing is said' '' "$(grep -v '^svsim: ' "$o
 judge 'no other command has it' "$(cat "$own/lines")" "$("$svsim" run "$own/file.trace" 2>/dev/null | sed '$d')"
 judge 'the tour names its trace' 'examples/watch/left-out-hart.trace:15: use hart 1' \
     "$("$svsim" tour 2>/dev/null | grep ': use hart 1$' | tail -n 1)"
+printf '%s\n' 'watch 1 2 sv39' '# case:15: use hart 1' '# case:7: # case:8: y' '# case:15 y' 'case:15: y' '# case:15:3: y' ' # case:1: y' >"$own/lines"
+judge 'the name in a story' "$(sed 's|^# case:15: use|# file.trace:15: use|; s|^# case:7:|# file.trace:7:|' "$own/lines")" \
+    "$(cd "$own" && "$svsim" explain file.trace 15 2>/dev/null | sed '$d')"
+{ sleep 0.2; "$svsim" explain "$own/file.trace" 16 2>"$own/unread"; echo "$?" >"$own/unread_status"; } | true
+judge 'a story that nobody reads: its status' "$(cat "$own/watch_status")" "$(cat "$own/unread_status")"
+judge 'a story that nobody reads: nothing is said' '' "$(grep -v '^svsim: ' "$own/unread")"
 : >"$own/lines"
 
 # The tour
@@ -494,6 +552,8 @@ judge 'a release answers' "released watch -" "$("$svsim" watch -)"
 judge 'a release passes an option on' "released --all watch -" "$("$svsim" --all watch -)"
 judge 'and one with a value' "released watch --hart 1 --kind=use -" "$("$svsim" watch --hart 1 --kind=use -)"
 judge 'and two dashes' "released watch --quiet -- -" "$("$svsim" watch --quiet -- -)"
+judge 'a release explains' "released explain --hart 1 - 7" "$("$svsim" explain --hart 1 - 7)"
+says 'explain without a line, of a release' 2 'explain -' 'svsim: usage: svsim COMMAND FILE'
 says 'both options, of a release' 2 'watch --all --quiet -' 'svsim: usage: svsim COMMAND FILE'
 judge 'its status' 1 "$("$svsim" run "$own/file.toml" >/dev/null; echo $?)"
 says 'a word that is no command, of a release' 2 "rnu $own/file.toml" 'svsim: usage: svsim COMMAND FILE'

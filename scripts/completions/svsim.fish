@@ -1,6 +1,6 @@
 # fish: the commands of svsim as `svsim help` lists them, the options of a command and the kinds as its help lists them, and files.
 function __svsim_commands
-    svsim help 2>/dev/null | string replace --regex --filter '^  ([a-z]+) [A-Z]* *(.*)' '$1\t$2'
+    svsim help 2>/dev/null | string replace --regex --filter '^  ([a-z]+) [A-Z ]* (.*)' '$1\t$2'
 end
 # The first word that is no option, nor the value of one.
 function __svsim_command

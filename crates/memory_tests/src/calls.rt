@@ -1,7 +1,7 @@
 //! The calls that take memory.
 
 use crate::verdict::Verdict;
-use crate::{causes, inspections, live, locked, machines, notes, texts};
+use crate::{causes, inspections, live, locked, machines, notes, stories, texts};
 use std::alloc::Global;
 use std::sync::Wait;
 use std::thread::Threads;
@@ -24,11 +24,12 @@ pub enum Call {
     CheckNotes,
     Watch,
     WatchCauses,
+    Explain,
 }
 
 impl Call {
     /// All of them, in the order of their lines.
-    pub const ALL: [Call; 15] = [
+    pub const ALL: [Call; 16] = [
         Call::MachineOpen,
         Call::MachineRun,
         Call::LockedCall,
@@ -44,6 +45,7 @@ impl Call {
         Call::CheckNotes,
         Call::Watch,
         Call::WatchCauses,
+        Call::Explain,
     ];
 
     /// Its name on its line.
@@ -64,6 +66,7 @@ impl Call {
             Call::CheckNotes => "command Check with notes",
             Call::Watch => "watch_command",
             Call::WatchCauses => "watch_command_with by causes",
+            Call::Explain => "explain_command",
         }
     }
 
@@ -85,6 +88,7 @@ impl Call {
             Call::CheckNotes => inspections::notes(alloc),
             Call::Watch => notes::watch(alloc),
             Call::WatchCauses => causes::watch(alloc),
+            Call::Explain => stories::explain(alloc),
         }
     }
 }

@@ -6,7 +6,7 @@ use scenario::{Detail, Filter, watch_command_with};
 use std::alloc::Global;
 
 /// Hart 1 holds a page whose frame is given back.
-const TRACE: &str = "watch 1 2 sv39\n\
+pub const TRACE: &str = "watch 1 2 sv39\n\
     w 0 80000000 20000401\n\
     w 0 80001000 20000801\n\
     w 0 80002008 400d7\n\

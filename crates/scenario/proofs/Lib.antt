@@ -3,6 +3,7 @@ pub mod LiveLemmas
 pub mod FileLemmas
 pub mod OutputLemmas
 pub mod AskLemmas
+pub mod NumberLemmas
 pub mod TroubleLemmas
 pub mod RowLemmas
 pub mod OptionLemmas

@@ -7,7 +7,7 @@ use Rattle.std.specs.Str.{bytes_eq}
 use Rattle.std.proofs.lemmas.List.Folds.{find-append}
 use Rattle.std.proofs.lemmas.Slice.Eq.{bytes_eq-Decides}
 use Rattle.clap.proofs.WalkLemmas.{both}
-use Rattle.clap.specs.Words.{Row, Rule, Text}
+use Rattle.clap.specs.Words.{Row, Rule, Text, new_rule}
 use Rattle.clap.specs.declared.builder.value_parser.Reading.TheVariants.{AsWritten}
 use Rattle.clap.specs.declared.parser.matches.ValueSource.TheVariants.{CommandLine, DefaultValue}
 use Rattle.clap.specs.Facts.{explicit_source}
@@ -15,7 +15,8 @@ use Rattle.clap.specs.Faults.{check_fault, defaults_fault, given_default_fault}
 use Rattle.clap.specs.Kinds.{Kinds, check_kinds, or_else}
 use Rattle.clap.specs.Simple.{Shape, built, filled, with_index}
 use Rattle.clap.specs.Walk.{arg_by_id, arg_by_long, at_row, default_rows, has_row, is_empty, more_values, reading_by, with_default, with_values, without}
-use Rattle.scenario.specs.CommandLine.{Asked, Known, Options, asked_in_rows, asked_of, asked_with, is_given, is_set, known, option_rule, options_of, svsim, text_of, value_rule}
+use Rattle.scenario.specs.CommandLine.{Asked, Known, asked_in_rows, asked_of, asked_with, is_given, known, option_rule, svsim, text_of, value_rule}
+use Rattle.scenario.specs.Tasks.{Options, is_set, options_of}
 
 -- ---- lists
 
@@ -77,6 +78,9 @@ command_rule = with_index 1 (filled (value_rule (codes "COMMAND")))
 abbrev pub file_rule : Rule
 file_rule = with_index 2 (filled (value_rule (codes "FILE")))
 
+abbrev pub line_rule : Rule
+line_rule = with_index 3 (filled (new_rule (codes "LINE")))
+
 abbrev pub rule_by : Known → Rule
 rule_by option = filled (option_rule option)
 
@@ -98,7 +102,8 @@ long_rule name = go known
 
 -- no option has the name of a value
 abbrev is_no_value : Known → Bool
-is_no_value option = not (bytes_eq (codes "COMMAND") option.name || bytes_eq (codes "FILE") option.name)
+is_no_value option =
+    not (bytes_eq (codes "COMMAND") option.name || (bytes_eq (codes "FILE") option.name || bytes_eq (codes "LINE") option.name))
 
 -- and each is found by its name
 pub rule_is : (name : Text) (option : Known) → find (named name) known ≡ Some option → arg_by_id top.rules option.name ≡ Some (rule_by option)
@@ -106,14 +111,16 @@ rule_is name option found =
     let holds = found_holds (named name) is_no_value known option refl found in
     let same : option.name ≡ name = (bytes_eq-Decides option.name name).0 holds.1 in
     let itself : find (named option.name) known ≡ Some option = ap (λ n. find (named n) known) same ∙ found in
-    go (bytes_eq (codes "COMMAND") option.name) (bytes_eq (codes "FILE") option.name) holds.0
+    go (bytes_eq (codes "COMMAND") option.name) (bytes_eq (codes "FILE") option.name) (bytes_eq (codes "LINE") option.name) holds.0
     ∙ (find_mapped (λ rule. bytes_eq rule.id option.name) rule_by known ∙ ap (option_map rule_by) itself)
   where
-    go : (c f : Bool) → not (c || f) ≡ true
-        → cond c (Some command_rule) (cond f (Some file_rule) (arg_by_id (map rule_by known) option.name)) ≡ arg_by_id (map rule_by known) option.name
-    go false false e = refl
-    go true f e = absurd (true≢false (sym e))
-    go false true e = absurd (true≢false (sym e))
+    go : (c f l : Bool) → not (c || (f || l)) ≡ true
+        → cond c (Some command_rule) (cond f (Some file_rule) (cond l (Some line_rule) (arg_by_id (map rule_by known) option.name)))
+        ≡ arg_by_id (map rule_by known) option.name
+    go false false false e = refl
+    go true f l e = absurd (true≢false (sym e))
+    go false true l e = absurd (true≢false (sym e))
+    go false false true e = absurd (true≢false (sym e))
 
 -- ---- the rows of what was given
 
@@ -247,8 +254,8 @@ required_are_there None f options = refl
 required_are_there (Some c) None options = refl
 required_are_there (Some c) (Some f) options = refl
 
-abbrev options_by : Bool → Bool → Option Text → Option Text → Option Text → Options
-options_by all quiet hart page kind = record { all = all; quiet = quiet; hart = hart; page = page; kind = kind }
+abbrev options_by : Bool → Bool → Option Text → Option Text → Option Text → Option Text → Options
+options_by all quiet hart page kind line = record { all = all; quiet = quiet; hart = hart; page = page; kind = kind; line = line }
 
 -- by the row of each name
 module _ (at : Text → Option Row) (text : Text → Option Text) where
@@ -267,11 +274,12 @@ module _ (at : Text → Option Row) (text : Text → Option Text) where
   abbrev Needs : Text → Type 0
   Needs name = is_explicit (at name) ≡ is_some (text name)
 
-  options_are : ReadsFlag (codes "all") → ReadsFlag (codes "quiet") → Reads (codes "hart") → Reads (codes "page") → Reads (codes "kind") → options_of read ≡ options_of text
-  options_are all quiet hart page kind =
-      ap₂ (λ a q. options_by a q (read (codes "hart")) (read (codes "page")) (read (codes "kind"))) all quiet
-      ∙ (ap₂ (λ h p. options_by (is_set (text (codes "all"))) (is_set (text (codes "quiet"))) h p (read (codes "kind"))) hart page
-      ∙ ap (options_by (is_set (text (codes "all"))) (is_set (text (codes "quiet"))) (text (codes "hart")) (text (codes "page"))) kind)
+  options_are : ReadsFlag (codes "all") → ReadsFlag (codes "quiet") → Reads (codes "hart") → Reads (codes "page") → Reads (codes "kind") → Reads (codes "LINE")
+      → options_of read ≡ options_of text
+  options_are all quiet hart page kind line =
+      ap₂ (λ a q. options_by a q (read (codes "hart")) (read (codes "page")) (read (codes "kind")) (read (codes "LINE"))) all quiet
+      ∙ (ap₂ (λ h p. options_by (is_set (text (codes "all"))) (is_set (text (codes "quiet"))) h p (read (codes "kind")) (read (codes "LINE"))) hart page
+      ∙ ap₂ (options_by (is_set (text (codes "all"))) (is_set (text (codes "quiet"))) (text (codes "hart")) (text (codes "page"))) kind line)
 
   outcome_is : Needs (codes "COMMAND") → Needs (codes "FILE") → Reads (codes "COMMAND") → Reads (codes "FILE") → options_of read ≡ options_of text → outcome ≡ asked_of text
   outcome_is has_command has_file command file options =
@@ -308,6 +316,6 @@ asked_at_end given =
     let flag = λ (id : Text) (none : is_set (text_in (row_by id None)) ≡ false). ap (λ o. is_set (text_in o)) (row_at_end id given) ∙ flag_by id none (find (given_by id) given) in
     let needed = λ (id : Text) (none : is_explicit (row_by id None) ≡ false). ap is_explicit (row_at_end id given) ∙ needed_by id none (find (given_by id) given) in
     let options = options_are (λ id. find (by id) rows) (text_of given) (flag (codes "all") refl) (flag (codes "quiet") refl)
-    (value (codes "hart") refl) (value (codes "page") refl) (value (codes "kind") refl) in
+    (value (codes "hart") refl) (value (codes "page") refl) (value (codes "kind") refl) (value (codes "LINE") refl) in
     outcome_is (λ id. find (by id) rows) (text_of given) (needed (codes "COMMAND") refl) (needed (codes "FILE") refl)
     (value (codes "COMMAND") refl) (value (codes "FILE") refl) options

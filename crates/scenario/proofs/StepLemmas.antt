@@ -17,7 +17,7 @@ use Rattle.clap.specs.Simple.{built, entered}
 use Rattle.clap.specs.Walk.{Held, Step, Waiting, Walk, after_flag, after_step, arg_by_id, arg_by_index, arg_by_long, finished, has_row, idle, is_empty, is_pending, long_met, long_or_other, next, nothing_held, option as awaiting, option_word, pending_count, positional, pushed, settled, settled_rows, short_or_plain, to_positional, trailing, used, used_by_id, value, walked, with_default, with_values, without, word_met}
 use Rattle.clap.proofs.WalkLemmas.{both}
 use Rattle.scenario.specs.CommandLine.{Asked, Known, asked, asked_in_rows, asked_of, is_end, is_given, is_option, name_in, option_in, svsim, text_of, value_in, valued, values}
-use Rattle.scenario.proofs.RowLemmas.{Given, asked_at_end, asked_if_right, command_rule, file_rule, long_rule, no_default_fault, row_is_given, rows_of, rule_by, top, used_row}
+use Rattle.scenario.proofs.RowLemmas.{Given, asked_at_end, asked_if_right, command_rule, file_rule, line_rule, long_rule, no_default_fault, row_is_given, rows_of, rule_by, top, used_row}
 use Rattle.scenario.proofs.OptionLemmas.{IsPlain, IsRead, Pending, held_of, option_fault, option_read, plain_word}
 
 -- ---- the walk
@@ -92,6 +92,9 @@ command_uses text = record { faults = λ rows. refl; uses = λ rows. refl }
 
 pub file_uses : (text : Text) → Uses file_rule (text ∷ []) text
 file_uses text = record { faults = λ rows. refl; uses = λ rows. refl }
+
+pub line_uses : (text : Text) → Uses line_rule (text ∷ []) text
+line_uses text = record { faults = λ rows. refl; uses = λ rows. refl }
 
 module _ (rule : Rule) (texts : List Text) (text : Text) (how : Uses rule texts text) (rows : List Row) (given : Given) (is : rows ≡ rows_of given) where
   pub use_is : (again : Bool) → is_given rule.id given ≡ again → use_fault false rule texts rows ≡ or_else (repeated again) []
@@ -188,16 +191,19 @@ or_false false = refl
 pub data Left : Type 0 where
   command_next : Left
   file_next : Left
+  line_next : Left
   none_next : Left
 
 abbrev pub position_at : Left → ℕ
 position_at command_next = 1
 position_at file_next = 2
-position_at none_next = 3
+position_at line_next = 3
+position_at none_next = 4
 
 abbrev pub values_at : Left → List Text
 values_at command_next = values
-values_at file_next = codes "FILE" ∷ []
+values_at file_next = codes "FILE" ∷ codes "LINE" ∷ []
+values_at line_next = codes "LINE" ∷ []
 values_at none_next = []
 
 module _ (rows : List Row) (pending : Pending) (ended : Bool) (word : Text) (words : List Text) where
@@ -221,13 +227,21 @@ module _ (rows : List Row) (pending : Pending) (ended : Bool) (word : Text) (wor
       (value_walked ended word 2 now is
       ∙ ap₂ (λ (h : Held) (t : Bool). at (pushed (codes "FILE") word h) idle 3 t) (never (is_pending file_rule pending) now (settled top.rules now)) (or_false ended))
 
-  pub third_fails : IsValue ended word → from (at now idle 3 ended) (word ∷ words) ≡ None
-  third_fails is = fails _ word words kinds.UnknownArgument (value_turn ended word 3 now is)
+  pub line_goes : settle_fault top.rules false now ≡ [] → IsValue ended word
+      → from (at now idle 3 ended) (word ∷ words) ≡ from (at (held_of so_far (Some (codes "LINE", word ∷ []))) idle 4 ended) words
+  line_goes settles is =
+      goes_on _ _ word words (value_turn ended word 3 now is ∙ (never (is_pending line_rule pending) [] (settle_fault top.rules false now) ∙ settles))
+      (value_walked ended word 3 now is
+      ∙ ap₂ (λ (h : Held) (t : Bool). at (pushed (codes "LINE") word h) idle 4 t) (never (is_pending line_rule pending) now (settled top.rules now)) (or_false ended))
+
+  pub fourth_fails : IsValue ended word → from (at now idle 4 ended) (word ∷ words) ≡ None
+  fourth_fails is = fails _ word words kinds.UnknownArgument (value_turn ended word 4 now is)
 
   -- a value settles what is pending
   value_refused : (left : Left) → IsDoomed rows pending → (kind : ErrorKind) × (step_fault top (position_at left) now value ≡ kind ∷ [])
   value_refused command_next doomed = (doomed.0, never (is_pending command_rule pending) [] (settle_fault top.rules false now) ∙ doomed.1)
   value_refused file_next doomed = (doomed.0, never (is_pending file_rule pending) [] (settle_fault top.rules false now) ∙ doomed.1)
+  value_refused line_next doomed = (doomed.0, never (is_pending line_rule pending) [] (settle_fault top.rules false now) ∙ doomed.1)
   value_refused none_next doomed = (kinds.UnknownArgument, refl)
 
 -- ---- `--`

@@ -10,10 +10,11 @@ use Rattle.clap.specs.Faults.{settle_fault, turn_fault, use_fault}
 use Rattle.clap.specs.Kinds.{Kinds, or_else}
 use Rattle.clap.specs.Walk.{Walk, arg_by_id, idle, option as awaiting, settled_rows, used, walked}
 use Rattle.clap.proofs.WalkLemmas.{first_value-rows}
-use Rattle.scenario.specs.CommandLine.{Asked, Known, Place, Read, asked, asked_after, asked_by, asked_in_words, asked_of, before_end, behind_end, behind_option, give, give_known, give_option, give_value, is_end, is_given, is_option, name_in, no_options, option_in, read_word, svsim, value_in, valued}
-use Rattle.scenario.proofs.RowLemmas.{Given, command_rule, file_rule, rows_of, rule_by, rule_is, top}
+use Rattle.scenario.specs.CommandLine.{Asked, Known, Place, Read, asked, asked_after, asked_by, asked_in_words, asked_of, before_end, behind_end, behind_option, give, give_known, give_option, give_value, is_end, is_given, is_option, name_in, option_in, read_word, svsim, value_in, valued}
+use Rattle.scenario.specs.Tasks.{no_options, with_line}
+use Rattle.scenario.proofs.RowLemmas.{Given, command_rule, file_rule, line_rule, rows_of, rule_by, rule_is, top}
 use Rattle.scenario.proofs.OptionLemmas.{IsRead, Pending, held_of, option_fault, option_read, plain_word}
-use Rattle.scenario.proofs.StepLemmas.{command_next, file_next, none_next, at, at_end, at_last, command_goes, command_uses, doomed_at_last, doomed_ended, doomed_read, end_is, fails, file_goes, file_uses, first_use, flag_uses, from, from_start, goes_on, Holds, IsDoomed, IsValue, known_turn, known_walked, Left, option_fails, option_refused, pends, pends_again, position_at, text_goes, texts_after, third_fails, use_is, Uses, valued_uses, values_at, Waits, waits_doomed}
+use Rattle.scenario.proofs.StepLemmas.{command_next, file_next, line_next, none_next, at, at_end, at_last, command_goes, command_uses, doomed_at_last, doomed_ended, doomed_read, end_is, fails, file_goes, file_uses, first_use, flag_uses, from, from_start, goes_on, Holds, IsDoomed, IsValue, known_turn, known_walked, Left, line_goes, line_uses, option_fails, option_refused, pends, pends_again, position_at, text_goes, texts_after, fourth_fails, use_is, Uses, valued_uses, values_at, Waits, waits_doomed}
 
 -- what clap found is what is asked for
 pub asked_found : (f : Found) (words : List (List ℕ)) → fault_of svsim words ≡ [] → rows_found f ≡ matches_of svsim words
@@ -21,7 +22,7 @@ pub asked_found : (f : Found) (words : List (List ℕ)) → fault_of svsim words
 unfolding asked
 asked_found f words none rows =
     let read = first_value-rows f in
-    rw (none, ← rows, read (codes "COMMAND"), read (codes "FILE"), read (codes "all"), read (codes "quiet"), read (codes "hart"), read (codes "page"), read (codes "kind")) refl
+    rw (none, ← rows, read (codes "COMMAND"), read (codes "FILE"), read (codes "all"), read (codes "quiet"), read (codes "hart"), read (codes "page"), read (codes "kind"), read (codes "LINE")) refl
 
 -- ---- what is read off the words
 
@@ -69,8 +70,10 @@ module _ (ended : Bool) (words : List Text) (refused : AreRefused ended words) (
   value_read command_next rows pending given word holds is =
       command_goes rows pending ended word words holds.settles is ∙ given_read command_rule word refl (command_uses word) file_next _ given holds.has
   value_read file_next rows pending given word holds is =
-      file_goes rows pending ended word words holds.settles is ∙ given_read file_rule word refl (file_uses word) none_next _ given holds.has
-  value_read none_next rows pending given word holds is = third_fails rows pending ended word words is
+      file_goes rows pending ended word words holds.settles is ∙ given_read file_rule word refl (file_uses word) line_next _ given holds.has
+  value_read line_next rows pending given word holds is =
+      line_goes rows pending ended word words holds.settles is ∙ given_read line_rule word refl (line_uses word) none_next _ given holds.has
+  value_read none_next rows pending given word holds is = fourth_fails rows pending ended word words is
 
 ended_read : (words : List Text) → AreFollowed true words
 ended_read [] left rows pending given holds = at_last rows pending given (position_at left) true holds
@@ -197,3 +200,14 @@ two_words name word file first second =
     from_start name (word ∷ file ∷ []) ∙ (command_goes [] None false word (file ∷ []) refl (plain_word word (not_end word first) first)
     ∙ (file_goes _ _ false file [] one.settles (plain_word file (not_end file second) second)
     ∙ at_last _ _ _ 3 false two))
+
+pub three_words : (name word file line : Text) → is_option word ≡ false → is_option file ≡ false → is_option line ≡ false
+    → asked (name ∷ word ∷ file ∷ line ∷ []) ≡ asked_by word (with_line line) file
+three_words name word file line first second third =
+    let one = pends command_rule word refl (command_uses word) [] [] refl refl in
+    let two = pends file_rule file refl (file_uses file) _ ((codes "COMMAND", word) ∷ []) one.has refl in
+    let three = pends line_rule line refl (line_uses line) _ ((codes "COMMAND", word) ∷ (codes "FILE", file) ∷ []) two.has refl in
+    from_start name (word ∷ file ∷ line ∷ []) ∙ (command_goes [] None false word (file ∷ line ∷ []) refl (plain_word word (not_end word first) first)
+    ∙ (file_goes _ _ false file (line ∷ []) one.settles (plain_word file (not_end file second) second)
+    ∙ (line_goes _ _ false line [] two.settles (plain_word line (not_end line third) third)
+    ∙ at_last _ _ _ 4 false three)))

@@ -39,6 +39,7 @@ pub data Ending : Type 0 where
   no_thread : Ending
   warned : Ending
   wrong_line : ℕ → LineFault → Bool → Ending
+  no_verdict : ℕ → Ending
 
 abbrev pub failure_status : Failure → ℕ
 failure_status not_toml = 2
@@ -57,6 +58,7 @@ status_of no_memory = 5
 status_of no_thread = 5
 status_of warned = 1
 status_of (wrong_line number fault some) = if some then 1 else 3
+status_of (no_verdict line) = 1
 
 abbrev pub reason : List ℕ → Ending → List ℕ
 reason file done = []
@@ -72,14 +74,17 @@ reason file no_thread = codes "no thread"
 reason file warned = []
 reason file (wrong_line number fault some) =
     file ++ codes ":" ++ decimal number ++ codes ":" ++ line_fault_text fault
+reason file (no_verdict line) =
+    file ++ codes ":" ++ decimal line ++ codes ": no such verdict"
 
--- the line on standard error: of a wrong line as compilers write it
+-- the line on standard error: of a line of the file as compilers write it
 abbrev pub error_line : List ℕ → Ending → List ℕ
 error_line file done = []
 error_line file stale_used = []
 error_line file warned = []
 error_line file (wrong_line number fault some) =
     reason file (wrong_line number fault some) ++ codes "\n"
+error_line file (no_verdict line) = reason file (no_verdict line) ++ codes "\n"
 error_line file ending = codes "svsim: " ++ reason file ending ++ codes "\n"
 
 -- of a file named `f`, an ending has this status and this line
@@ -106,6 +111,7 @@ Suits meaning bytes no_thread = meaning.StartsThreads × (length bytes ≤ most_
     × (file_fault meaning bytes ≡ None)
 Suits meaning bytes warned = ⊥
 Suits meaning bytes (wrong_line number fault some) = ⊥
+Suits meaning bytes (no_verdict line) = ⊥
 
 -- what was written of the lines: all, a beginning, or nothing
 abbrev pub Leaves : (List ℕ → Type 0) → Ending → Option (List ℕ) → Option (List ℕ) → Type 0
@@ -162,4 +168,5 @@ ending_of troubles.Unreadable = unreadable
 ending_of troubles.TooLarge = too_large
 ending_of troubles.NoThread = no_thread
 ending_of (troubles.Line number fault some) = wrong_line number fault some
+ending_of (troubles.NoVerdict line) = no_verdict line
 ending_of (troubles.Refused fault) = ending_of_fault fault

@@ -1,8 +1,8 @@
 -- What the words of the command line ask for.
-use Rattle.std.specs.Prelude.{◌≡◌, ℕ, Bool, ◌==◌, ◌&&◌, ◌||◌, ◌++◌, not, true, false, List, [], ◌∷◌, drop, find, fold, map, codes, string_bytes, Option, Some, None, option_and_then, option_map, Result, Ok, Err, if◌then◌else◌, Vec, String}
+use Rattle.std.specs.Prelude.{◌≡◌, ℕ, Bool, ◌==◌, ◌&&◌, ◌++◌, true, false, List, [], ◌∷◌, drop, find, fold, map, codes, string_bytes, Option, Some, None, option_and_then, option_map, Result, Ok, Err, if◌then◌else◌, Vec, String}
 use Rattle.std.specs.declared.alloc.Global.{Global}
 use Rattle.std.specs.List.{after_first, before_first, list_any}
-use Rattle.std.specs.Option.{is_none, ok_or, option_map_or}
+use Rattle.std.specs.Option.{ok_or}
 use Rattle.std.specs.Str.{bytes_eq}
 use Rattle.std.specs.declared.io.ErrorKind.{ErrorKind}
 use Rattle.std.specs.declared.io.ErrorKind.TheVariants as kinds
@@ -13,109 +13,30 @@ use Rattle.clap.specs.declared.builder.action.ArgAction.{ArgAction}
 use Rattle.clap.specs.declared.builder.action.ArgAction.TheVariants.{Set, SetTrue}
 use Rattle.files.specs.declared.fault.Fault.TheVariants.{NoMemory}
 use Rattle.scenario.specs.declared.command_line.Ask.{Ask}
-use Rattle.scenario.specs.declared.command_line.Given.{Given}
 use Rattle.scenario.specs.declared.command_line.NoWords.{NoWords}
 use Rattle.scenario.specs.declared.command_line.NoWords.TheVariants as none
-use Rattle.watch_report.specs.declared.detail.Detail.{Detail}
-use Rattle.watch_report.specs.declared.detail.Detail.TheVariants.{Causes, Counts, Verdicts}
-use Rattle.watch_report.specs.declared.filter.Filter.{Filter}
-use Rattle.watch_report.specs.Filters.{filter_in}
+use Rattle.scenario.specs.declared.task.Task.{Task}
 use Rattle.scenario.specs.declared.trouble.Trouble.{Trouble}
 use Rattle.scenario.specs.declared.trouble.Trouble.TheVariants.{Usage, Refused}
-use Rattle.scenario.specs.declared.commands.Command.{Command}
-use Rattle.scenario.specs.declared.commands.Command.TheVariants.{Watch}
 use Rattle.scenario.specs.Command.{Ending, misused, no_memory}
 use Rattle.scenario.specs.Commands.{command_of}
+use Rattle.scenario.specs.Tasks.{Options, options_of, task_of}
 
--- a command, how much it prints of a trace and of which verdicts, and the name of the file that it
--- reads
+-- what is done, and the name of the file with which it is
 pub record Asked : Type 0 where
-  pub command : Command
-  pub detail : Detail
-  pub filter : Filter
+  pub task : Task
   pub file : List ℕ
 
 abbrev pub ask_view : Ask → Asked
-ask_view ask = record {
-  command = ask.command;
-  detail = ask.detail;
-  filter = ask.filter;
-  file = ask.file.now;
-}
-
--- ---- options
-
--- which flags were given, and the values of the other options
-pub record Options : Type 0 where
-  pub all : Bool
-  pub quiet : Bool
-  pub hart : Option (List ℕ)
-  pub page : Option (List ℕ)
-  pub kind : Option (List ℕ)
-
-abbrev pub options_view : Given → Options
-options_view given = record {
-  all = given.all;
-  quiet = given.quiet;
-  hart = option_map (λ text. text.now) given.hart;
-  page = option_map (λ text. text.now) given.page;
-  kind = option_map (λ text. text.now) given.kind;
-}
-
-abbrev pub no_options : Options
-no_options = record { all = false; quiet = false; hart = None; page = None; kind = None }
-
-abbrev pub has_none : Options → Bool
-has_none options = not options.all && (not options.quiet
-    && (is_none options.hart && (is_none options.page && is_none options.kind)))
-
--- the command takes options
-abbrev pub takes_options : Command → Bool
-takes_options Watch = true
-takes_options _ = false
-
--- `--all` and `--quiet` don't go together
-abbrev pub detail_of : Options → Option Detail
-detail_of options =
-    if options.all && options.quiet then None
-    else if options.all then Some Verdicts
-    else if options.quiet then Some Counts
-    else Some Causes
-
-abbrev pub filter_of : Options → Option Filter
-filter_of options = filter_in options.hart options.page options.kind
-
-abbrev pub asked_for : Command → Option Detail → Option Filter → List ℕ → Option Asked
-asked_for command (Some detail) (Some filter) file =
-    Some (record { command = command; detail = detail; filter = filter; file = file })
-asked_for command _ _ file = None
-
--- a command that takes the options, which are right
-abbrev pub asked_as : Command → Options → List ℕ → Option Asked
-asked_as command options file =
-    if has_none options || takes_options command
-    then asked_for command (detail_of options) (filter_of options) file else None
+ask_view ask = record { task = ask.task; file = ask.file.now }
 
 -- by the word of a command, options and a file
 abbrev pub asked_by : List ℕ → Options → List ℕ → Option Asked
 asked_by word options file =
-    option_and_then (λ command. asked_as command options file) (command_of word)
+    option_map (λ task. record { task = task; file = file })
+    (option_and_then (task_of options) (command_of word))
 
 -- ---- by names
-
--- the flag with this value was given
-abbrev pub is_set : Option (List ℕ) → Bool
-is_set value = option_map_or (λ text. bytes_eq text (codes "true")) value false
-
--- by the value of each name
-abbrev pub options_of : (List ℕ → Option (List ℕ)) → Options
-options_of named = record {
-  all = is_set (named (codes "all"));
-  quiet = is_set (named (codes "quiet"));
-  hart = named (codes "hart");
-  page = named (codes "page");
-  kind = named (codes "kind");
-}
 
 -- COMMAND, options and FILE
 abbrev pub asked_with : Option (List ℕ) → Options → Option (List ℕ) → Option Asked
@@ -127,9 +48,12 @@ asked_of named = asked_with (named (codes "COMMAND")) (options_of named) (named 
 
 -- ---- the names
 
--- of the values
+-- of the values that are required, and of all, in their order
+abbrev pub required : List (List ℕ)
+required = codes "COMMAND" ∷ codes "FILE" ∷ []
+
 abbrev pub values : List (List ℕ)
-values = codes "COMMAND" ∷ codes "FILE" ∷ []
+values = required ++ codes "LINE" ∷ []
 
 -- a name of an option, which is a flag or takes a value
 pub record Known : Type 0 where
@@ -164,10 +88,10 @@ option_rule option = record (new_rule option.name) {
 abbrev pub without_help : App → App
 without_help app = on_top (λ top. record top { disable_help_flag = true }) app
 
--- the values, which are required, and the options; `--help` is none
+-- the values and the options; `--help` is none
 abbrev pub svsim : App
 svsim = fold with_rule (without_help (new_app (codes "svsim")))
-    (map value_rule values ++ map option_rule known)
+    (map value_rule required ++ new_rule (codes "LINE") ∷ map option_rule known)
 
 abbrev pub asked_in_rows : List Row → Option Asked
 asked_in_rows rows = asked_of (λ name. first_of name rows)

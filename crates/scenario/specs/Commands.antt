@@ -7,7 +7,7 @@ use Rattle.files.specs.RunFile.{run_scenario_of}
 use Rattle.files.specs.WalkFile.{walk_scenario_of}
 use Rattle.checks.specs.Told.{fault_of}
 use Rattle.scenario.specs.declared.commands.Command.{Command}
-use Rattle.scenario.specs.declared.commands.Command.TheVariants.{Plain, Live, Watch}
+use Rattle.scenario.specs.declared.commands.Command.TheVariants.{Plain, Live, Watch, Explain}
 use Rattle.scenario.specs.declared.commands.Which.{Which}
 use Rattle.scenario.specs.declared.commands.Which.TheVariants.{Walk, Run, Stale, Show, Draw, Check}
 use Rattle.scenario.specs.Prints.{LinesOf, Prints, PrintsLive, PrintsReplies, PrintsStale, PrintsState, TellsFaults, UsesOf}
@@ -75,16 +75,6 @@ meaning_of file Show = show
 meaning_of file Draw = draw
 meaning_of file Check = check file
 
--- how a command reads its file: whole, and then it answers, or line by line
-pub data Reading : Type 1 where
-  whole : Meaning → Reading
-  by_lines : Reading
-
-abbrev pub reading_of : List ℕ → Command → Reading
-reading_of file (Plain which) = whole (meaning_of file which)
-reading_of file Live = whole live
-reading_of file Watch = by_lines
-
 -- ---- the words
 
 abbrev pub which_of : List ℕ → Option Which
@@ -101,4 +91,5 @@ abbrev pub command_of : List ℕ → Option Command
 command_of word =
     if bytes_eq word (codes "live") then Some Live
     else if bytes_eq word (codes "watch") then Some Watch
+    else if bytes_eq word (codes "explain") then Some Explain
     else option_map Plain (which_of word)

@@ -8,6 +8,7 @@ pub mod Input
 pub mod Commands
 pub mod Command
 pub mod Watches
+pub mod Tasks
 pub mod EndsOn
 pub mod CommandLine
 pub mod Shown

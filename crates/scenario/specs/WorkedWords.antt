@@ -2,27 +2,24 @@
 use Rattle.std.specs.Prelude.{ℕ, Bool, List, ◌∷◌, codes, Option, Some, None, if◌then◌else◌}
 use Rattle.clap.specs.Words.{fault_of, first_of, matches_of}
 use Rattle.clap.specs.Walk.{is_empty}
-use Rattle.scenario.specs.declared.commands.Command.{Command}
+use Rattle.scenario.specs.declared.task.Task.{Task}
 use Rattle.watch.specs.declared.trace.Verdict.{Verdict}
-use Rattle.watch_report.specs.declared.detail.Detail.{Detail}
-use Rattle.watch_report.specs.Filters.{kind_of, no_filter}
+use Rattle.watch_report.specs.declared.filter.Filter.{Filter}
+use Rattle.watch_report.specs.Filters.{kind_of}
 use Rattle.scenario.specs.CommandLine.{Asked, svsim}
 
--- of all verdicts
-abbrev pub asking : Command → Detail → List ℕ → Asked
-asking command detail file =
-    record { command = command; detail = detail; filter = no_filter; file = file }
+abbrev pub asking : Task → List ℕ → Asked
+asking task file = record { task = task; file = file }
 
--- of those of a hart, on a page or of a kind
-abbrev pub of_hart : ℕ → Asked → Asked
-of_hart hart asked = record asked { filter = record asked.filter { hart = Some hart } }
+-- the verdicts of a hart, on a page and of a kind, of those that the filter takes
+abbrev pub of_hart : ℕ → Filter → Filter
+of_hart hart filter = record filter { hart = Some hart }
 
-abbrev pub of_page : ℕ → Asked → Asked
-of_page address asked = record asked { filter = record asked.filter { address = Some address } }
+abbrev pub of_page : ℕ → Filter → Filter
+of_page address filter = record filter { address = Some address }
 
-abbrev pub of_kind : Bool → Verdict → Asked → Asked
-of_kind global verdict asked =
-    record asked { filter = record asked.filter { kind = Some (kind_of global verdict) } }
+abbrev pub of_kind : Bool → Verdict → Filter → Filter
+of_kind global verdict filter = record filter { kind = Some (kind_of global verdict) }
 
 -- the text that clap gives to an option of `svsim watch t`
 abbrev pub text_taken : List ℕ → List (List ℕ) → Option (List ℕ)

@@ -8,13 +8,15 @@ ghost use Rattle.clap.specs.Words.{first_value, found_of};
 ghost use Rattle.scenario.specs.Command.{Reports, misused, no_memory};
 ghost use Rattle.scenario.specs.EndsOn.{EndsOn};
 ghost use Rattle.scenario.specs.Shown.{EndsUnasked, shown, shown_in};
-ghost use Rattle.scenario.specs.CommandLine.{AsksFor, ask_view, asked, asked_as, asked_in, asked_of, detail_of, filter_of, has_none, takes_options, is_set, no_words_by, options_of, options_view};
+ghost use Rattle.scenario.specs.CommandLine.{AsksFor, ask_view, asked, asked_in, asked_of, no_words_by};
 
-use crate::commands::{Command, command_of};
+use crate::commands::command_of;
+use crate::explain_program::explain_command;
 use crate::live_program::live_command;
 use crate::output::write_whole;
 use crate::program::{DONE, command, report};
 use crate::shown::shown_of;
+use crate::task::{Given, Task};
 use crate::trouble::Trouble;
 use crate::watch_program::watch_command_with;
 use crate::words::matches_of;
@@ -28,16 +30,11 @@ use std::io::{Read, Write};
 use std::sync::Wait;
 use std::thread::Threads;
 use thiserror::Error;
-use watch_report::{Detail, Filter, read_filter};
 
-/// What the words ask for, and the file that it reads.
+/// What is done, and the name of the file with which it is.
 #[derive(Clone, Copy, Debug)]
 pub struct Ask<'a> {
-    pub command: Command,
-    /// What `watch` prints of its trace. No other command reads it.
-    pub detail: Detail,
-    /// The verdicts of which `watch` prints it. No other command reads it.
-    pub filter: Filter,
+    pub task: Task,
     pub file: &'a str,
 }
 
@@ -70,119 +67,7 @@ impl From<io::Error> for NoWords {
     }
 }
 
-/// The flags that were given, and the values of the other options.
-#[derive(Clone, Copy)]
-struct Given<'a> {
-    all: bool,
-    quiet: bool,
-    hart: Option<&'a str>,
-    page: Option<&'a str>,
-    kind: Option<&'a str>,
-}
-
-/// Only `watch` has options.
-fn takes_options(command: Command) -> bool
-    ensures { result ≡ takes_options command }
-{
-    match command {
-        Command::Plain(_) => false,
-        Command::Live => false,
-        Command::Watch => true,
-    }
-}
-
-/// The value of a flag is `true` if it was given.
-fn is_set(flag: Option<&str>) -> bool
-    ensures { result ≡ is_set (option_map (λ text. text.now) flag.entry) }
-{
-    match flag {
-        Some(text) => text == "true",
-        None => false,
-    }
-}
-
-fn bytes_of<'a>(value: Option<&'a str>) -> Option<&'a [u8]>
-    ensures { option_map (λ text. text.now) result ≡ option_map (λ text. text.now) value.entry }
-{
-    match value {
-        Some(text) => Some(text.as_bytes()),
-        None => None,
-    }
-}
-
-impl<'a> Given<'a> {
-    fn new(matches: &ArgMatches<'a>) -> Given<'a>
-        ensures { options_view result ≡ options_of (first_value (found_of matches.now)) }
-    {
-        Given {
-            all: is_set(matches.get_str("all")),
-            quiet: is_set(matches.get_str("quiet")),
-            hart: matches.get_str("hart"),
-            page: matches.get_str("page"),
-            kind: matches.get_str("kind"),
-        }
-    }
-
-    fn has_none(&self) -> bool
-        ensures { result ≡ has_none (options_view self.now) }
-    {
-        !self.all
-            && !self.quiet
-            && self.hart.is_none()
-            && self.page.is_none()
-            && self.kind.is_none()
-    }
-
-    /// What is printed. `--all` and `--quiet` don't go together.
-    fn detail(&self) -> Option<Detail>
-        ensures { result ≡ detail_of (options_view self.now) }
-    {
-        if self.all && self.quiet {
-            return None;
-        }
-        if self.all {
-            return Some(Detail::Verdicts);
-        }
-        if self.quiet {
-            return Some(Detail::Counts);
-        }
-        Some(Detail::Causes)
-    }
-
-    fn filter(&self) -> Option<Filter>
-        ensures { result ≡ filter_of (options_view self.now) }
-    {
-        read_filter(
-            bytes_of(self.hart),
-            bytes_of(self.page),
-            bytes_of(self.kind),
-        )
-    }
-}
-
-/// The command on a file, with options that it takes and that are right.
-fn asked_as<'a>(command: Command, options: &Given<'a>, file: &'a str) -> Option<Ask<'a>>
-    ensures { option_map ask_view result
-        ≡ asked_as command (options_view options.now) file.entry.now }
-{
-    if !options.has_none() && !takes_options(command) {
-        return None;
-    }
-    let Some(detail) = options.detail() else {
-        return None;
-    };
-    let Some(filter) = options.filter() else {
-        return None;
-    };
-    Some(Ask {
-        command,
-        detail,
-        filter,
-        file,
-    })
-}
-
-/// What the matches ask for: a command that is known, its options, and FILE.
+/// What the matches ask for: a command that is known, its options, FILE, and LINE of `explain`.
 fn asked_of<'a>(matches: &ArgMatches<'a>) -> Option<Ask<'a>>
     ensures { option_map ask_view result ≡ asked_of (first_value (found_of matches.now)) }
 {
@@ -195,12 +80,14 @@ fn asked_of<'a>(matches: &ArgMatches<'a>) -> Option<Ask<'a>>
     let Some(command) = command_of(word) else {
         return None;
     };
-    let options = Given::new(matches);
-    asked_as(command, &options, file)
+    match Given::new(matches).task(command) {
+        Some(task) => Some(Ask { task, file }),
+        None => None,
+    }
 }
 
-/// What the words ask for, if they ask for a command that is known and a FILE, with options that the
-/// command takes.
+/// What the words ask for, if they ask for a command that is known and a FILE, with options and a LINE
+/// that the command takes.
 #[tactic(auto, using(crate::proofs::WordLemmas::asked_found), unfolding(crate::specs::CommandLine::asked))]
 fn look_up<'a>(alloc: Global, words: &'a [String]) -> Result<Option<Ask<'a>>, AllocError>
     ensures { IfOk result (λ ask. option_map ask_view ask ≡ asked (map string_bytes words.now)) }
@@ -218,9 +105,9 @@ fn look_up<'a>(alloc: Global, words: &'a [String]) -> Result<Option<Ask<'a>>, Al
 }
 
 /// What the words ask for, of which the first is the program's name: a command that is known and a
-/// FILE, with no option, or with options of `watch`: `--all` or `--quiet`, and `--hart H`, `--page VA`
-/// and `--kind KIND`. `--` ends the options. Refused with `Usage` if they ask for nothing, and with
-/// `NoMemory` if memory runs out.
+/// FILE, and of `explain` a LINE, a decimal number from 1. `watch` and `explain` take the options
+/// `--hart H`, `--page VA` and `--kind KIND`, and `watch` takes `--all` or `--quiet`. `--` ends the
+/// options. Refused with `Usage` if they ask for nothing, and with `NoMemory` if memory runs out.
 pub fn ask_of<'a>(alloc: Global, words: &'a [String]) -> Result<Ask<'a>, Trouble>
     ensures { AsksFor (map string_bytes words.now) result }
 {
@@ -242,19 +129,21 @@ fn on_file<T: Threads + Wait + Sync, R: Read + Drop, W: Write, E: Write, G: Gate
     err: &mut E,
     gate: &G,
 ) -> u8
-    ensures { EndsOn R.remaining ask.entry.command ask.entry.detail ask.entry.filter
-        ask.entry.file.now input result (W.contents out.old) (W.contents out.new)
-        (E.contents err.old) (E.contents err.new) }
+    ensures { EndsOn R.remaining ask.entry.task ask.entry.file.now input result
+        (W.contents out.old) (W.contents out.new) (E.contents err.old) (E.contents err.new) }
 {
     let Some(mut reader) = input else {
         return report(alloc, ask.file, &Trouble::Unreadable, err);
     };
-    match ask.command {
-        Command::Plain(which) => command(alloc, which, ask.file, &mut reader, out, err),
-        Command::Live => live_command(rt, alloc, ask.file, &mut reader, out, err, gate),
-        Command::Watch => {
-            watch_command_with(alloc, ask.detail, ask.filter, ask.file, reader, out, err)
-        },
+    match ask.task {
+        Task::Plain(which) => command(alloc, which, ask.file, &mut reader, out, err),
+        Task::Live => live_command(rt, alloc, ask.file, &mut reader, out, err, gate),
+        Task::Watch(detail, filter) => {
+            watch_command_with(alloc, detail, filter, ask.file, reader, out, err)
+        }
+        Task::Explain(filter, line) => {
+            explain_command(alloc, filter, line, ask.file, reader, out, err)
+        }
     }
 }
 
@@ -302,7 +191,7 @@ pub fn answer_words<
     requires { O.IsAlwaysCallable reader_of }
     ensures asked { IfOk (asked_in words) (λ ask. ((input : Option R)
         × FnOnceReturnsAt O.FnOnce reader_of ask.file input
-        × EndsOn R.remaining ask.command ask.detail ask.filter ask.file input result
+        × EndsOn R.remaining ask.task ask.file input result
         (W.contents out.old) (W.contents out.new) (E.contents err.old) (E.contents err.new))
         ⊎ (Reports [] no_memory result (E.contents err.old) (E.contents err.new)
         × Keeps (W.contents out.old) (W.contents out.new))) }

@@ -28,6 +28,8 @@ pub enum Command {
     Live,
     /// Reads a trace line by line, for its verdicts.
     Watch,
+    /// Tells one verdict of a trace as a story.
+    Explain,
 }
 
 fn which_of(word: &str) -> Option<Which>
@@ -63,6 +65,9 @@ pub(crate) fn command_of(word: &str) -> Option<Command>
     }
     if word == "watch" {
         return Some(Command::Watch);
+    }
+    if word == "explain" {
+        return Some(Command::Explain);
     }
     match which_of(word) {
         Some(which) => Some(Command::Plain(which)),

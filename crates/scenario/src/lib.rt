@@ -1,14 +1,16 @@
 //! Scenario files: from a file's bytes to the lines that `svsim` prints.
 //!
 //! `walk_text` and `run_text` answer a text, `command` does the whole of a command over any reader
-//! and writers, `live_command` that of `live`, whose harts are threads, `watch_command_with` that
-//! of `watch`, and `answer_words` is the whole program over the words of the command line. But for
-//! `watch` a text is read and checked whole before its first line is written.
+//! and writers, `live_command` that of `live`, whose harts are threads, `watch_command_with` and
+//! `explain_command` those of `watch` and `explain`, and `answer_words` is the whole program over the
+//! words of the command line. But for `watch` and `explain` a text is read and checked whole before its
+//! first line is written.
 #![tactic(auto)]
 
 mod command_line;
 mod commands;
 mod ending_laws;
+mod explain_program;
 mod finding;
 mod format_laws;
 mod input;
@@ -25,6 +27,7 @@ mod shown;
 mod stale_items;
 mod stale_texts;
 mod system;
+mod task;
 mod texts;
 mod trouble;
 mod watch_program;
@@ -34,6 +37,7 @@ mod words;
 pub use command_line::{Ask, NoWords, answer_words, ask_of};
 pub use commands::{Command, Which};
 pub use ending_laws::{what_a_status_says, worked_faults, worked_reports};
+pub use explain_program::explain_command;
 pub use files::{
     Fault, first_wrong_step, least_unknown_key, mode_is_sv39_by_default, worked_modes, worked_turns,
 };
@@ -51,10 +55,12 @@ pub use stale_items::stale_lines;
 pub use stale_texts::{StaleText, stale_text};
 pub use steps::StepFault;
 pub use system::start;
+pub use task::Task;
 pub use texts::{run_text, walk_text};
 pub use trouble::Trouble;
 pub use watch_program::{watch_command, watch_command_with};
 pub use watch_report::{Detail, Filter, Kind, read_filter};
 pub use word_laws::{
-    words_are_read, worked_filters, worked_options, worked_refusals, worked_texts, worked_words,
+    words_are_read, worked_explanations, worked_filters, worked_options, worked_refusals,
+    worked_texts, worked_words,
 };

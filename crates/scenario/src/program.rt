@@ -27,6 +27,9 @@ const STALE_USED: u8 = 1;
 /// There is a verdict.
 pub(crate) const WARNED: u8 = 1;
 
+/// There is no verdict to explain.
+const NO_VERDICT: u8 = 1;
+
 const NOT_READ: u8 = 2;
 
 const REFUSED: u8 = 3;
@@ -47,6 +50,7 @@ fn status(trouble: &Trouble) -> u8
         Trouble::Refused(Fault::Output) => OUTPUT_FAILED,
         Trouble::NoThread | Trouble::Refused(Fault::NoMemory) => NO_MEMORY,
         Trouble::Line { warned: true, .. } => WARNED,
+        Trouble::NoVerdict { .. } => NO_VERDICT,
         Trouble::Line { warned: false, .. } | Trouble::Refused(_) => REFUSED,
     }
 }
@@ -60,6 +64,7 @@ fn error_text(alloc: Global, file: &str, trouble: &Trouble) -> Result<String, Al
     match trouble {
         Trouble::Unreadable => writeln!(text, "svsim: cannot read {file}")?,
         Trouble::Line { number, fault, .. } => writeln!(text, "{file}:{number}:{fault}")?,
+        Trouble::NoVerdict { line } => writeln!(text, "{file}:{line}: no such verdict")?,
         Trouble::Usage | Trouble::TooLarge | Trouble::NoThread | Trouble::Refused(_) => {
             writeln!(text, "svsim: {trouble}")?
         }

@@ -17,17 +17,18 @@ pub enum Shown {
 const HELP: &str = "\
 svsim COMMAND FILE
 
-  run FILE     makes the steps of a scenario, and prints the reply to each
-  live FILE    gives each hart a thread and a script
-  walk FILE    translates addresses over page tables that the file spells out
-  stale FILE   lists the stale translations of a run, and the accesses that they answer
-  show FILE    prints the state after the last step of a run
-  draw FILE    prints a picture of a run, as SVG
-  check FILE   tells what is wrong with a file of any command
-  watch TRACE  judges a kernel's trace: where may a hart still use a translation that is gone?
+  run FILE            makes the steps of a scenario, and prints the reply to each
+  live FILE           gives each hart a thread and a script
+  walk FILE           translates addresses over page tables that the file spells out
+  stale FILE          lists the stale translations of a run, and the accesses that they answer
+  show FILE           prints the state after the last step of a run
+  draw FILE           prints a picture of a run, as SVG
+  check FILE          tells what is wrong with a file of any command
+  watch TRACE         judges a kernel's trace: where may a hart still use a translation that is gone?
+  explain TRACE LINE  tells why a line of a trace has a verdict
 
-  help COMMAND tells more of one command
-  --version    tells the version
+  help COMMAND        tells more of one command
+  --version           tells the version
 ";
 
 const RUN: &str = "\
@@ -100,6 +101,20 @@ What is counted, and the status, is of the verdicts that are taken.
 docs/YOUR-KERNEL.md tells how to get a trace. Status 0: no verdict. 1: some. 3: a wrong line, and no verdict before it.
 ";
 
+const EXPLAIN: &str = "\
+svsim explain TRACE LINE tells why a line of a trace has a verdict: it prints the records that alone give the first verdict of the line.
+Each comes after a comment, which has its line and what it does. TRACE is a file, or - for standard input.
+
+  svsim explain examples/watch/left-out-hart.trace 15
+
+  --hart H     takes the verdicts of one hart alone, 0 to 63
+  --page VA    takes those of pages that VA lies in, in hexadecimal without 0x
+  --kind KIND  takes those of one kind: claim, free, reuse, use, or kernel-claim and so on
+
+Of several verdicts the first that svsim watch --all prints is told. What is printed is a trace: svsim watch finds the same verdict there.
+Status 0: done. 1: the line has no such verdict. 3: a wrong line up to that one.
+";
+
 /// The version, of which CHANGELOG.md tells.
 const VERSION: &str = "svsim 0.2.0\n";
 
@@ -114,6 +129,7 @@ fn help_of(command: Command) -> &'static str {
         Command::Plain(Which::Check) => CHECK,
         Command::Live => LIVE,
         Command::Watch => WATCH,
+        Command::Explain => EXPLAIN,
     }
 }
 

@@ -42,11 +42,12 @@ fn given_words<R: Env + AllocGlobal>(rt: &R) -> Result<Vec<String>, NoWords> {
     Ok(words.collect(rt.alloc())?)
 }
 
-/// Whether `watch` is one of the words after the program's name. Of words that ask for another command on
-/// the file `-` it is none, since no other has options.
+/// Whether `watch` or `explain` is one of the words after the program's name. Of words that ask for
+/// another command on the file `-` it is none, since no other has options or a LINE.
 fn is_of_trace(words: &Result<Vec<String>, NoWords>) -> bool {
     match words {
-        Ok(words) => words.iter().skip(1).any(|word| word.as_str() == "watch"),
+        Ok(words) => words.iter().skip(1).any(|word| word.as_str() == "watch"
+            || word.as_str() == "explain"),
         Err(_) => false,
     }
 }

@@ -25,6 +25,10 @@ pub enum Trouble {
         fault: LineFault,
         warned: bool,
     },
+    /// `explain`: no verdict that the filter takes is at this line.
+    NoVerdict {
+        line: u64,
+    },
     Refused(Fault),
 }
 
@@ -42,6 +46,7 @@ impl fmt::Display for Trouble {
             Trouble::TooLarge => f.write_str("file too large"),
             Trouble::NoThread => f.write_str("no thread"),
             Trouble::Line { number, fault, .. } => write!(f, "FILE:{number}:{fault}"),
+            Trouble::NoVerdict { line } => write!(f, "FILE:{line}: no such verdict"),
             Trouble::Refused(fault) => write!(f, "{fault}"),
         }
     }

@@ -3,20 +3,25 @@
 ghost use Rattle.std.specs.Prelude.{◌≡◌, ℕ, List, [], ◌∷◌, true, false, Some, None, codes};
 ghost use Rattle.std.specs.List.{list_all};
 ghost use Rattle.std.specs.Str.{is_utf8};
-ghost use Rattle.scenario.specs.declared.commands.Command.TheVariants.{Live, Plain, Watch};
+ghost use Rattle.scenario.specs.declared.task.Task.TheVariants.{Explain, Live, Plain, Watch};
 ghost use Rattle.scenario.specs.declared.commands.Which.TheVariants.{Draw, Run, Show, Stale, Walk};
 ghost use Rattle.watch_report.specs.declared.detail.Detail.TheVariants.{Causes, Counts, Verdicts};
-ghost use Rattle.watch.specs.declared.trace.Verdict.TheVariants.{Free};
-ghost use Rattle.scenario.specs.CommandLine.{asked, asked_by, asked_in_words, is_option, no_options};
+ghost use Rattle.watch.specs.declared.trace.Verdict.TheVariants.{Free, Used};
+ghost use Rattle.watch_report.specs.Filters.{no_filter};
+ghost use Rattle.scenario.specs.CommandLine.{asked, asked_by, asked_in_words, is_option};
+ghost use Rattle.scenario.specs.Tasks.{no_options, with_line};
 ghost use Rattle.scenario.specs.WorkedWords.{asking, of_hart, of_kind, of_page, text_taken};
 
-/// What `clap` takes is what is read off the words, one after the other (`asked_in_words`). Of two
-/// words that are no options, whatever their bytes are, it takes just these.
+/// What `clap` takes is what is read off the words, one after the other (`asked_in_words`). Of two or
+/// three words that are no options, whatever their bytes are, it takes just these.
 pub fn words_are_read()
     ensures read { (name : List ℕ) (words : List (List ℕ)) → list_all is_utf8 words ≡ true
         → asked (name ∷ words) ≡ asked_in_words words }
     ensures plain { (name word file : List ℕ) → is_option word ≡ false → is_option file ≡ false
         → asked (name ∷ word ∷ file ∷ []) ≡ asked_by word no_options file }
+    ensures plain_line { (name word file line : List ℕ) → is_option word ≡ false
+        → is_option file ≡ false → is_option line ≡ false
+        → asked (name ∷ word ∷ file ∷ line ∷ []) ≡ asked_by word (with_line line) file }
 {}
 
 /// Command lines written out, and what `clap` takes of them.
@@ -25,9 +30,9 @@ pub fn worked_words()
     ensures no_words { asked (codes "svsim" ∷ []) ≡ None }
     ensures one { asked (codes "svsim" ∷ codes "walk" ∷ []) ≡ None }
     ensures two { asked (codes "svsim" ∷ codes "walk" ∷ codes "f" ∷ [])
-        ≡ Some (asking (Plain Walk) Causes (codes "f")) }
+        ≡ Some (asking (Plain Walk) (codes "f")) }
     ensures watch { asked (codes "svsim" ∷ codes "watch" ∷ codes "-" ∷ [])
-        ≡ Some (asking Watch Causes (codes "-")) }
+        ≡ Some (asking (Watch Causes no_filter) (codes "-")) }
     ensures watch_alone { asked (codes "svsim" ∷ codes "watch" ∷ []) ≡ None }
     ensures three { asked (codes "svsim" ∷ codes "walk" ∷ codes "f" ∷ codes "g" ∷ []) ≡ None }
     ensures four { asked (codes "svsim" ∷ codes "run" ∷ codes "--" ∷ codes "f" ∷ codes "g" ∷ [])
@@ -35,15 +40,15 @@ pub fn worked_words()
     ensures unknown { asked (codes "svsim" ∷ codes "Run" ∷ codes "f" ∷ []) ≡ None }
     ensures file_first { asked (codes "svsim" ∷ codes "f" ∷ codes "run" ∷ []) ≡ None }
     ensures no_file_name { asked (codes "svsim" ∷ codes "run" ∷ [] ∷ [])
-        ≡ Some (asking (Plain Run) Causes []) }
+        ≡ Some (asking (Plain Run) []) }
     ensures dash { asked (codes "svsim" ∷ codes "live" ∷ codes "-" ∷ [])
-        ≡ Some (asking Live Causes (codes "-")) }
+        ≡ Some (asking Live (codes "-")) }
     ensures end { asked (codes "svsim" ∷ codes "stale" ∷ codes "--" ∷ codes "-x" ∷ [])
-        ≡ Some (asking (Plain Stale) Causes (codes "-x")) }
+        ≡ Some (asking (Plain Stale) (codes "-x")) }
     ensures end_first { asked (codes "svsim" ∷ codes "--" ∷ codes "show" ∷ codes "--" ∷ [])
-        ≡ Some (asking (Plain Show) Causes (codes "--")) }
+        ≡ Some (asking (Plain Show) (codes "--")) }
     ensures end_last { asked (codes "svsim" ∷ codes "draw" ∷ codes "f" ∷ codes "--" ∷ [])
-        ≡ Some (asking (Plain Draw) Causes (codes "f")) }
+        ≡ Some (asking (Plain Draw) (codes "f")) }
     ensures end_alone { asked (codes "svsim" ∷ codes "check" ∷ codes "--" ∷ []) ≡ None }
 {}
 
@@ -62,11 +67,11 @@ pub fn worked_options()
     ensures short_version { asked (codes "svsim" ∷ codes "-V" ∷ codes "run" ∷ codes "f" ∷ [])
         ≡ None }
     ensures all { asked (codes "svsim" ∷ codes "watch" ∷ codes "--all" ∷ codes "t" ∷ [])
-        ≡ Some (asking Watch Verdicts (codes "t")) }
+        ≡ Some (asking (Watch Verdicts no_filter) (codes "t")) }
     ensures quiet { asked (codes "svsim" ∷ codes "watch" ∷ codes "t" ∷ codes "--quiet" ∷ [])
-        ≡ Some (asking Watch Counts (codes "t")) }
+        ≡ Some (asking (Watch Counts no_filter) (codes "t")) }
     ensures all_first { asked (codes "svsim" ∷ codes "--all" ∷ codes "watch" ∷ codes "t" ∷ [])
-        ≡ Some (asking Watch Verdicts (codes "t")) }
+        ≡ Some (asking (Watch Verdicts no_filter) (codes "t")) }
     ensures all_twice { asked (codes "svsim" ∷ codes "watch" ∷ codes "--all" ∷ codes "--all"
         ∷ codes "t" ∷ []) ≡ None }
     ensures all_and_quiet { asked (codes "svsim" ∷ codes "watch" ∷ codes "--all" ∷ codes "--quiet"
@@ -74,7 +79,7 @@ pub fn worked_options()
     ensures all_of_run { asked (codes "svsim" ∷ codes "run" ∷ codes "--all" ∷ codes "f" ∷ [])
         ≡ None }
     ensures all_as_file { asked (codes "svsim" ∷ codes "watch" ∷ codes "--" ∷ codes "--all" ∷ [])
-        ≡ Some (asking Watch Causes (codes "--all")) }
+        ≡ Some (asking (Watch Causes no_filter) (codes "--all")) }
     ensures all_with_value { asked (codes "svsim" ∷ codes "watch" ∷ codes "--all=yes" ∷ codes "t" ∷ [])
         ≡ None }
     ensures part_of_all { asked (codes "svsim" ∷ codes "watch" ∷ codes "--al" ∷ codes "t" ∷ [])
@@ -85,33 +90,34 @@ pub fn worked_options()
 pub fn worked_filters()
     ensures hart { asked (codes "svsim" ∷ codes "watch" ∷ codes "--hart" ∷ codes "1" ∷ codes "t"
         ∷ [])
-        ≡ Some (of_hart 1 (asking Watch Causes (codes "t"))) }
+        ≡ Some (asking (Watch Causes (of_hart 1 no_filter)) (codes "t")) }
     ensures hart_with_equals { asked (codes "svsim" ∷ codes "watch" ∷ codes "t" ∷ codes "--hart=1"
         ∷ [])
-        ≡ Some (of_hart 1 (asking Watch Causes (codes "t"))) }
+        ≡ Some (asking (Watch Causes (of_hart 1 no_filter)) (codes "t")) }
     ensures hart_first { asked (codes "svsim" ∷ codes "--hart" ∷ codes "1" ∷ codes "watch"
         ∷ codes "t" ∷ [])
-        ≡ Some (of_hart 1 (asking Watch Causes (codes "t"))) }
+        ≡ Some (asking (Watch Causes (of_hart 1 no_filter)) (codes "t")) }
     ensures hart_between { asked (codes "svsim" ∷ codes "watch" ∷ codes "--hart" ∷ codes "1"
         ∷ codes "--" ∷ codes "t" ∷ [])
-        ≡ Some (of_hart 1 (asking Watch Causes (codes "t"))) }
+        ≡ Some (asking (Watch Causes (of_hart 1 no_filter)) (codes "t")) }
     ensures hart_and_all { asked (codes "svsim" ∷ codes "watch" ∷ codes "--all" ∷ codes "t"
         ∷ codes "--hart=1" ∷ [])
-        ≡ Some (of_hart 1 (asking Watch Verdicts (codes "t"))) }
+        ≡ Some (asking (Watch Verdicts (of_hart 1 no_filter)) (codes "t")) }
     ensures hart_and_quiet { asked (codes "svsim" ∷ codes "watch" ∷ codes "--hart" ∷ codes "1"
         ∷ codes "--quiet" ∷ codes "t" ∷ [])
-        ≡ Some (of_hart 1 (asking Watch Counts (codes "t"))) }
+        ≡ Some (asking (Watch Counts (of_hart 1 no_filter)) (codes "t")) }
     ensures hart_as_file { asked (codes "svsim" ∷ codes "watch" ∷ codes "--" ∷ codes "--hart" ∷ [])
-        ≡ Some (asking Watch Causes (codes "--hart")) }
+        ≡ Some (asking (Watch Causes no_filter) (codes "--hart")) }
     ensures page { asked (codes "svsim" ∷ codes "watch" ∷ codes "--page" ∷ codes "a000"
         ∷ codes "t" ∷ [])
-        ≡ Some (of_page 40960 (asking Watch Causes (codes "t"))) }
+        ≡ Some (asking (Watch Causes (of_page 40960 no_filter)) (codes "t")) }
     ensures kind { asked (codes "svsim" ∷ codes "watch" ∷ codes "--kind" ∷ codes "kernel-free"
         ∷ codes "t" ∷ [])
-        ≡ Some (of_kind true Free (asking Watch Causes (codes "t"))) }
+        ≡ Some (asking (Watch Causes (of_kind true Free no_filter)) (codes "t")) }
     ensures all_three { asked (codes "svsim" ∷ codes "watch" ∷ codes "--kind=free" ∷ codes "t"
         ∷ codes "--page=0" ∷ codes "--hart" ∷ codes "63" ∷ [])
-        ≡ Some (of_hart 63 (of_page 0 (of_kind false Free (asking Watch Causes (codes "t"))))) }
+        ≡ Some (asking (Watch Causes (of_hart 63 (of_page 0 (of_kind false Free no_filter))))
+        (codes "t")) }
 {}
 
 /// Options that lack a value, or have a wrong one.
@@ -150,6 +156,49 @@ pub fn worked_refusals()
         ∷ []) ≡ None }
     ensures hart_takes_the_file { asked (codes "svsim" ∷ codes "watch" ∷ codes "--hart"
         ∷ codes "t" ∷ []) ≡ None }
+{}
+
+/// `explain`, and its LINE.
+pub fn worked_explanations()
+    ensures line { asked (codes "svsim" ∷ codes "explain" ∷ codes "t" ∷ codes "7" ∷ [])
+        ≡ Some (asking (Explain no_filter 7) (codes "t")) }
+    ensures dash { asked (codes "svsim" ∷ codes "explain" ∷ codes "-" ∷ codes "12" ∷ [])
+        ≡ Some (asking (Explain no_filter 12) (codes "-")) }
+    ensures hart { asked (codes "svsim" ∷ codes "explain" ∷ codes "--hart" ∷ codes "1" ∷ codes "t"
+        ∷ codes "7" ∷ [])
+        ≡ Some (asking (Explain (of_hart 1 no_filter) 7) (codes "t")) }
+    ensures all_three { asked (codes "svsim" ∷ codes "explain" ∷ codes "t" ∷ codes "--kind=use"
+        ∷ codes "--page=a000" ∷ codes "7" ∷ codes "--hart=2" ∷ [])
+        ≡ Some (asking (Explain (of_hart 2 (of_page 40960 (of_kind false Used no_filter))) 7)
+        (codes "t")) }
+    ensures end { asked (codes "svsim" ∷ codes "explain" ∷ codes "--" ∷ codes "-t" ∷ codes "7" ∷ [])
+        ≡ Some (asking (Explain no_filter 7) (codes "-t")) }
+    ensures zeros { asked (codes "svsim" ∷ codes "explain" ∷ codes "t" ∷ codes "0007" ∷ [])
+        ≡ Some (asking (Explain no_filter 7) (codes "t")) }
+    ensures greatest { asked (codes "svsim" ∷ codes "explain" ∷ codes "t"
+        ∷ codes "18446744073709551615" ∷ [])
+        ≡ Some (asking (Explain no_filter 18446744073709551615) (codes "t")) }
+    ensures too_great { asked (codes "svsim" ∷ codes "explain" ∷ codes "t"
+        ∷ codes "18446744073709551616" ∷ []) ≡ None }
+    ensures zero { asked (codes "svsim" ∷ codes "explain" ∷ codes "t" ∷ codes "0" ∷ []) ≡ None }
+    ensures no_line { asked (codes "svsim" ∷ codes "explain" ∷ codes "t" ∷ []) ≡ None }
+    ensures empty { asked (codes "svsim" ∷ codes "explain" ∷ codes "t" ∷ [] ∷ []) ≡ None }
+    ensures no_number { asked (codes "svsim" ∷ codes "explain" ∷ codes "7" ∷ codes "t" ∷ []) ≡ None }
+    ensures hexadecimal { asked (codes "svsim" ∷ codes "explain" ∷ codes "t" ∷ codes "0x7" ∷ [])
+        ≡ None }
+    ensures plus { asked (codes "svsim" ∷ codes "explain" ∷ codes "t" ∷ codes "+7" ∷ []) ≡ None }
+    ensures minus { asked (codes "svsim" ∷ codes "explain" ∷ codes "t" ∷ codes "-7" ∷ []) ≡ None }
+    ensures two_lines { asked (codes "svsim" ∷ codes "explain" ∷ codes "t" ∷ codes "7" ∷ codes "8"
+        ∷ []) ≡ None }
+    ensures all { asked (codes "svsim" ∷ codes "explain" ∷ codes "--all" ∷ codes "t" ∷ codes "7"
+        ∷ []) ≡ None }
+    ensures quiet { asked (codes "svsim" ∷ codes "explain" ∷ codes "t" ∷ codes "7"
+        ∷ codes "--quiet" ∷ []) ≡ None }
+    ensures line_of_watch { asked (codes "svsim" ∷ codes "watch" ∷ codes "t" ∷ codes "7" ∷ [])
+        ≡ None }
+    ensures line_of_run { asked (codes "svsim" ∷ codes "run" ∷ codes "f" ∷ codes "7" ∷ []) ≡ None }
+    ensures line_as_option { asked (codes "svsim" ∷ codes "explain" ∷ codes "t" ∷ codes "--LINE=7"
+        ∷ []) ≡ None }
 {}
 
 /// The text that `clap` gives to an option, right or wrong.

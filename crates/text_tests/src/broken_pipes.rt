@@ -1,8 +1,8 @@
-//! Pipes that nobody reads any more, and other writers of `watch` that fail.
+//! Pipes that nobody reads any more, and other writers of `watch` and `explain` that fail.
 use crate::ends::{AtEnd, Narrow, Pieces, status_of};
 use crate::readers_and_writers::ALL;
 use crate::samples::{TRACE, VERDICTS};
-use scenario::watch_command;
+use scenario::{Filter, explain_command, watch_command};
 use std::test::Fail;
 
 /// A trace that is judged.
@@ -117,6 +117,56 @@ fn writers_of_watch_that_are_full(rt: HostRuntime) -> Result<(), Fail> {
                 assert!(rt; out.held.as_slice() == &printed.as_bytes()[..room]);
                 assert!(rt; err.held.as_slice() == line.as_bytes());
             }
+        }
+    }
+    Ok(())
+}
+
+/// What `explain_command` prints of line 9 of that trace.
+const STORY: &str = "watch 1 2 sv39\n\
+    # a trace:9: free hart 1 may hold page 1000+1000 -> 100 rw-u- asid 1 root 80000, stale since line 6 \
+    by unmap; frames 100+1 given back\n\
+    # a trace:2: a word on the way to the page\n\
+    w 0 80000000 20000401\n\
+    # a trace:3: a word on the way to the page\n\
+    w 0 80001000 20000801\n\
+    # a trace:4: a word on the way to the page\n\
+    w 0 80002008 400d7\n\
+    # a trace:5: hart 1 enters the address space\n\
+    s 1 8000100000080000\n\
+    # a trace:6: stale from here on\n\
+    w 0 80002008 0 @unmap\n\
+    # a trace:9: frames are given back\n\
+    z 0 100 1\n";
+
+/// `explain` ends without a line where nobody reads on. At another end of a writer the output has failed.
+#[test]
+fn writers_of_explain(rt: HostRuntime) -> Result<(), Fail> {
+    let alloc = rt.alloc();
+    let input = WRONG_LINE_AFTER_A_VERDICT.as_bytes();
+    for room in 0..STORY.len() + 1 {
+        for at_end in [AtEnd::BreaksPipe, AtEnd::Fails, AtEnd::TakesNothing] {
+            let mut out = Narrow::new(alloc, 7, room, at_end);
+            let mut err = Narrow::ample(alloc);
+            let reader = Pieces::whole(input);
+            let status = explain_command(
+                alloc,
+                Filter::default(),
+                9,
+                "a trace",
+                reader,
+                &mut out,
+                &mut err,
+            );
+            let is_told = room == STORY.len() || at_end == AtEnd::BreaksPipe;
+            let (wanted, line) = if is_told {
+                (0, "")
+            } else {
+                (4, "svsim: output failed\n")
+            };
+            assert!(rt; status == wanted, "{room}");
+            assert!(rt; out.held.as_slice() == &STORY.as_bytes()[..room]);
+            assert!(rt; err.held.as_slice() == line.as_bytes());
         }
     }
     Ok(())

@@ -17,3 +17,7 @@ returns-clause-wrong_line c = (refl, refl)
 pub returns-clause-wrong_line_after_a_verdict : goal.returns-clause-wrong_line_after_a_verdict
 unfolding digits
 returns-clause-wrong_line_after_a_verdict c = (refl, refl)
+
+pub returns-clause-no_verdict : goal.returns-clause-no_verdict
+unfolding digits
+returns-clause-no_verdict c = (refl, refl)

@@ -1,0 +1,199 @@
+//! What is done with a file: a command, with what else the words give it.
+ghost use Rattle.std.specs.Prelude.{◌≡◌, option_map};
+ghost use Rattle.std.specs.Char.{is_ascii_digit};
+ghost use Rattle.std.specs.List.{list_all};
+ghost use Rattle.clap.specs.Words.{first_value, found_of};
+ghost use Rattle.scenario.specs.Tasks.{detail_of, explain_in, filter_of, has_none, is_decimal, is_set, line_in, line_of, options_of, options_view, task_of, watch_in};
+
+use crate::commands::{Command, Which};
+use clap::ArgMatches;
+use watch_report::{Detail, Filter, read_filter};
+
+/// What is done with a file.
+#[derive(Clone, Copy, PartialEq, Eq, Debug)]
+pub enum Task {
+    /// Reads it whole, and starts no thread.
+    Plain(Which),
+    /// Runs its scripts, each on a thread of its own.
+    Live,
+    /// Prints this of the verdicts of a trace that the filter takes.
+    Watch(Detail, Filter),
+    /// Tells the first verdict at this line of a trace that the filter takes.
+    Explain(Filter, u64),
+}
+
+/// The flags that were given, and the values of LINE and the other options.
+#[derive(Clone, Copy)]
+pub(crate) struct Given<'a> {
+    all: bool,
+    quiet: bool,
+    hart: Option<&'a str>,
+    page: Option<&'a str>,
+    kind: Option<&'a str>,
+    line: Option<&'a str>,
+}
+
+/// The value of a flag is `true` if it was given.
+fn is_set(flag: Option<&str>) -> bool
+    ensures { result ≡ is_set (option_map (λ text. text.now) flag.entry) }
+{
+    match flag {
+        Some(text) => text == "true",
+        None => false,
+    }
+}
+
+fn bytes_of<'a>(value: Option<&'a str>) -> Option<&'a [u8]>
+    ensures { option_map (λ text. text.now) result ≡ option_map (λ text. text.now) value.entry }
+{
+    match value {
+        Some(text) => Some(text.as_bytes()),
+        None => None,
+    }
+}
+
+fn are_digits(bytes: &[u8]) -> bool
+    ensures { result ≡ list_all is_ascii_digit bytes.now }
+{
+    bytes.iter().all(|byte| byte.is_ascii_digit())
+}
+
+/// One digit or more, and nothing else.
+fn is_decimal(text: &str) -> bool
+    ensures { result ≡ is_decimal text.now }
+{
+    !text.is_empty() && are_digits(text.as_bytes())
+}
+
+/// The number of a line, from 1 on, in decimal digits.
+fn read_number(text: &str) -> Option<u64>
+    ensures { result ≡ line_in text.now }
+{
+    if !is_decimal(text) {
+        return None;
+    }
+    let Ok(number) = u64::from_str_radix(text, 10) else {
+        return None;
+    };
+    if number == 0 {
+        return None;
+    }
+    Some(number)
+}
+
+impl<'a> Given<'a> {
+    pub(crate) fn new(matches: &ArgMatches<'a>) -> Given<'a>
+        ensures { options_view result ≡ options_of (first_value (found_of matches.now)) }
+    {
+        Given {
+            all: is_set(matches.get_str("all")),
+            quiet: is_set(matches.get_str("quiet")),
+            hart: matches.get_str("hart"),
+            page: matches.get_str("page"),
+            kind: matches.get_str("kind"),
+            line: matches.get_str("LINE"),
+        }
+    }
+
+    fn has_none(&self) -> bool
+        ensures { result ≡ has_none (options_view self.now) }
+    {
+        !self.all
+            && !self.quiet
+            && self.hart.is_none()
+            && self.page.is_none()
+            && self.kind.is_none()
+            && self.line.is_none()
+    }
+
+    /// What is printed. `--all` and `--quiet` don't go together.
+    fn detail(&self) -> Option<Detail>
+        ensures { result ≡ detail_of (options_view self.now) }
+    {
+        if self.all && self.quiet {
+            return None;
+        }
+        if self.all {
+            return Some(Detail::Verdicts);
+        }
+        if self.quiet {
+            return Some(Detail::Counts);
+        }
+        Some(Detail::Causes)
+    }
+
+    fn filter(&self) -> Option<Filter>
+        ensures { result ≡ filter_of (options_view self.now) }
+    {
+        read_filter(
+            bytes_of(self.hart),
+            bytes_of(self.page),
+            bytes_of(self.kind),
+        )
+    }
+
+    fn line(&self) -> Option<u64>
+        ensures { result ≡ line_of (options_view self.now) }
+    {
+        match self.line {
+            Some(text) => read_number(text),
+            None => None,
+        }
+    }
+
+    /// `watch` takes all options, and no LINE.
+    fn watch(&self) -> Option<Task>
+        ensures { result ≡ watch_in (options_view self.now) }
+    {
+        if self.line.is_some() {
+            return None;
+        }
+        let Some(detail) = self.detail() else {
+            return None;
+        };
+        let Some(filter) = self.filter() else {
+            return None;
+        };
+        Some(Task::Watch(detail, filter))
+    }
+
+    /// `explain` wants a LINE, and takes the options of the filter.
+    fn explain(&self) -> Option<Task>
+        ensures { result ≡ explain_in (options_view self.now) }
+    {
+        if self.all || self.quiet {
+            return None;
+        }
+        let Some(filter) = self.filter() else {
+            return None;
+        };
+        let Some(line) = self.line() else {
+            return None;
+        };
+        Some(Task::Explain(filter, line))
+    }
+
+    /// What the command does, if it takes what was given, and that is right.
+    pub(crate) fn task(&self, command: Command) -> Option<Task>
+        ensures { result ≡ task_of (options_view self.now) command }
+    {
+        match command {
+            Command::Plain(which) => {
+                if self.has_none() {
+                    Some(Task::Plain(which))
+                } else {
+                    None
+                }
+            }
+            Command::Live => {
+                if self.has_none() {
+                    Some(Task::Live)
+                } else {
+                    None
+                }
+            }
+            Command::Watch => self.watch(),
+            Command::Explain => self.explain(),
+        }
+    }
+}
