@@ -9,6 +9,7 @@ stories have, and how many are the whole trace.
 import os, re, subprocess, sys, tempfile
 from collections import Counter
 from same_watch import traces
+from trace_lines import EVERY
 from watch_definitions import made
 
 VERDICT = re.compile(r"(?P<file>[^:]*):(?P<line>\d+): (?P<kind>\S+) hart (?P<hart>\d+) may hold page (?P<page>(?P<base>[0-9a-f]+).*), "
@@ -21,8 +22,17 @@ def answer(program, *words):
     return done.returncode, done.stdout.splitlines()
 
 
-def verdicts(program, path):
-    return [VERDICT.fullmatch(line) for line in answer(program, "watch", "--all", path)[1] if VERDICT.fullmatch(line)]
+def verdicts(program, path, *tests):
+    return [VERDICT.fullmatch(line) for line in answer(program, "watch", "--all", *tests, path)[1] if VERDICT.fullmatch(line)]
+
+
+def words_of(text):
+    """The words of a record without its note. From address 0 on, a size of 0 is every address, and so is one that is all ones."""
+    words = re.split(r" [@#]", text)[0].split()
+    place = {"r": 4, "c": 4}.get(words[0])
+    if place and words[place] == "0" and int(words[place + 1], 16) in (0, EVERY):
+        words[place + 1] = "0"
+    return words
 
 
 def parts(lines):
@@ -38,7 +48,7 @@ def is_right(program, path, source, verdict, story):
     told = list(parts(story))
     if [number for number, _ in told] != sorted({number for number, _ in told}) or told[-1][0] != int(verdict["line"]):
         return "the order of its lines"
-    if any(source[number - 1].split("@")[0].split("#")[0].split() != text.split(" @")[0].split() for number, text in told):
+    if any(words_of(source[number - 1]) != words_of(text) for number, text in told):
         return "a line that is none of the trace's"
     with tempfile.NamedTemporaryFile("w", suffix=".trace", encoding="utf-8", errors="surrogateescape", newline="") as file:
         file.write("".join(f"{line}\n" for line in story))
@@ -62,7 +72,9 @@ def check(program, text, counts):
             if named in seen:
                 continue
             seen.add(named)
-            status, story = answer(program, "explain", file.name, named[0], "--hart", named[1], "--page", named[2], "--kind", named[3])
+            tests = "--hart", named[1], "--page", named[2], "--kind", named[3]
+            status, story = answer(program, "explain", file.name, named[0], *tests)
+            verdict = next(each for each in verdicts(program, file.name, *tests) if each["line"] == named[0])
             wrong = f"status {status}" if status else is_right(program, file.name, source, verdict, story)
             counts["records"] += len(story) // 2 - 1
             counts["stories"] += 1
