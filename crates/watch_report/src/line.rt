@@ -56,6 +56,7 @@ pub(crate) fn split_note(text: &[u8]) -> Option<(&[u8], &[u8])>
 }
 
 /// The fields of a record, read one after another.
+#[inline(always)]
 fn read_fields(header: Header, text: &[u8]) -> Option<TraceRecord>
     ensures { result ≡ read_fields header (fields_of text.now) }
 {
@@ -65,6 +66,7 @@ fn read_fields(header: Header, text: &[u8]) -> Option<TraceRecord>
 }
 
 /// The record that a text writes, without a note.
+#[inline(always)]
 fn record(header: Header, text: &[u8]) -> Option<TraceRecord>
     ensures { result ≡ record_in header (fields_of text.now) }
 {
@@ -72,6 +74,7 @@ fn record(header: Header, text: &[u8]) -> Option<TraceRecord>
 }
 
 /// The line of a record.
+#[inline(always)]
 fn record_line(header: Header, text: &[u8]) -> Option<Line<'_>>
     ensures { option_map said_by result ≡ record_line_in header text.now }
 {
@@ -103,6 +106,7 @@ fn record_line(header: Header, text: &[u8]) -> Option<Line<'_>>
 /// digits; an ASID has 16 bits. A remote fence is for all addresses where SIZE is all ones, and
 /// where START and SIZE are 0 (SBI, RFENCE extension). A claim is of all addresses from START on
 /// where SIZE is all ones.
+#[inline(always)]
 pub fn read_line(header: Header, text: &[u8]) -> Option<Line<'_>>
     ensures { option_map said_by result ≡ line_in header text.now }
 {

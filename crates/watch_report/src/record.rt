@@ -79,6 +79,7 @@ fn claim_range(start: u64, size: u64) -> Option<AddressRange>
 }
 
 /// What stands after `w H`.
+#[inline(always)]
 fn store(hart: u8, text: &[u8]) -> Option<Record>
     ensures { result ≡ read_store hart (fields_of text.now) }
 {
@@ -96,6 +97,7 @@ fn store(hart: u8, text: &[u8]) -> Option<Record>
 }
 
 /// What stands after `s H`.
+#[inline(always)]
 fn satp_write(scheme: Scheme, hart: u8, text: &[u8]) -> Option<Record>
     ensures { result ≡ read_satp_write scheme hart (fields_of text.now) }
 {
@@ -105,6 +107,7 @@ fn satp_write(scheme: Scheme, hart: u8, text: &[u8]) -> Option<Record>
 }
 
 /// What stands after `f H`.
+#[inline(always)]
 fn fence(hart: u8, text: &[u8]) -> Option<Record>
     ensures { result ≡ read_fence hart (fields_of text.now) }
 {
@@ -114,6 +117,7 @@ fn fence(hart: u8, text: &[u8]) -> Option<Record>
 }
 
 /// What stands after `r H`.
+#[inline(always)]
 fn remote_begin(hart: u8, text: &[u8]) -> Option<Record>
     ensures { result ≡ read_remote_begin hart (fields_of text.now) }
 {
@@ -131,6 +135,7 @@ fn remote_begin(hart: u8, text: &[u8]) -> Option<Record>
 }
 
 /// What stands after `e H`.
+#[inline(always)]
 fn remote_end(hart: u8, text: &[u8]) -> Option<Record>
     ensures { result ≡ remote_end_in hart (fields_of text.now) }
 {
@@ -149,6 +154,7 @@ fn frames(text: &[u8]) -> Option<Frames>
 }
 
 /// What stands after `a H`.
+#[inline(always)]
 fn give_out(hart: u8, text: &[u8]) -> Option<Record>
     ensures { result ≡ read_give_out hart (fields_of text.now) }
 {
@@ -157,6 +163,7 @@ fn give_out(hart: u8, text: &[u8]) -> Option<Record>
 }
 
 /// What stands after `z H`.
+#[inline(always)]
 fn give_back(hart: u8, text: &[u8]) -> Option<Record>
     ensures { result ≡ read_give_back hart (fields_of text.now) }
 {
@@ -165,6 +172,7 @@ fn give_back(hart: u8, text: &[u8]) -> Option<Record>
 }
 
 /// What stands after `c H`.
+#[inline(always)]
 fn claim_begin(hart: u8, text: &[u8]) -> Option<Record>
     ensures { result ≡ read_claim_begin hart (fields_of text.now) }
 {
@@ -181,6 +189,7 @@ fn claim_begin(hart: u8, text: &[u8]) -> Option<Record>
 }
 
 /// What stands after `d H`.
+#[inline(always)]
 fn claim_end(hart: u8, text: &[u8]) -> Option<Record>
     ensures { result ≡ claim_end_in hart (fields_of text.now) }
 {
@@ -189,6 +198,7 @@ fn claim_end(hart: u8, text: &[u8]) -> Option<Record>
 }
 
 /// What stands after `u H`.
+#[inline(always)]
 fn usage(hart: u8, text: &[u8]) -> Option<Record>
     ensures { result ≡ use_in hart (fields_of text.now) }
 {
@@ -197,6 +207,7 @@ fn usage(hart: u8, text: &[u8]) -> Option<Record>
 }
 
 /// The record of a letter and a hart, with the text after them.
+#[inline(always)]
 pub fn read_record(scheme: Scheme, letter: u8, hart: u8, text: &[u8]) -> Option<Record>
     ensures { result ≡ read_record scheme letter hart (fields_of text.now) }
 {
