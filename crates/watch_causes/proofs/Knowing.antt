@@ -113,7 +113,7 @@ own-cause : (o : Option Cause) (cause : Cause) → option_or o (Some cause) ≡ 
 own-cause None cause = refl
 own-cause (Some c) cause = refl
 
-same-by-refl : (f : Finding) → is_same_finding f f ≡ true
+pub same-by-refl : (f : Finding) → is_same_finding f f ≡ true
 same-by-refl f =
     and_from _ _ (eq-eqb f.since f.since refl)
     (and_from _ _ (eq-eqb f.hart f.hart refl)

@@ -10,3 +10,6 @@ pub mod Counted
 pub mod WorkedCauses
 pub mod WorkedStories
 pub mod Apart
+pub mod FirstVerdicts
+pub mod KnownCounts
+pub mod WorkedKnown

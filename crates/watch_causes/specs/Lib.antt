@@ -10,3 +10,6 @@ pub mod Roles
 pub mod Stories
 pub mod WorkedCauses
 pub mod WorkedStories
+pub mod KnownFindings
+pub mod KnownSoFar
+pub mod WorkedKnown

@@ -60,13 +60,13 @@ pub(crate) fn finding_of(warning: &Warning) -> Finding
     }
 }
 
-fn is_same_verdict(a: Verdict, b: Verdict) -> bool
+pub(crate) fn is_same_verdict(a: Verdict, b: Verdict) -> bool
     ensures { result ≡ is_same_verdict a b }
 {
     a == b
 }
 
-fn is_same_reason(a: Reason, b: Reason) -> bool
+pub(crate) fn is_same_reason(a: Reason, b: Reason) -> bool
     ensures { result ≡ is_same_reason a b }
 {
     a == b

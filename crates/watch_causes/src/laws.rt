@@ -1,7 +1,8 @@
 //! Laws of the definitions: each function does nothing, and its contract is the law.
 
-ghost use Rattle.std.specs.Prelude.{ℕ, ◌≡◌, ◌+◌, ◌∷◌, ◌↔◌, List, Some, find, length, option_map, sum_by};
+ghost use Rattle.std.specs.Prelude.{ℕ, ◌≡◌, ◌+◌, ◌++◌, ◌∷◌, ◌↔◌, [], List, Some, false, find, length, map, option_map, sum, sum_by};
 ghost use Rattle.std.specs.List.{before_first};
+ghost use Rattle.pte.specs.declared.scheme.Scheme.{Scheme};
 ghost use Rattle.watch.specs.declared.trace.Claim.{Claim};
 ghost use Rattle.watch.specs.declared.trace.Record.TheVariants as records;
 ghost use Rattle.watch.specs.Trace.{Trace, begins_claim, claim_of};
@@ -10,9 +11,12 @@ ghost use Rattle.watch_engine.specs.declared.warning.Warning.{Warning};
 ghost use Rattle.watch_engine.specs.Open.{claim_begun};
 ghost use Rattle.watch_causes.specs.declared.finding.Cause.{Cause};
 ghost use Rattle.watch_causes.specs.declared.finding.Finding.{Finding};
+ghost use Rattle.watch_causes.specs.declared.known_findings.KnownFindings.{KnownFindings};
 ghost use Rattle.watch_causes.specs.declared.tally.Tally.{Tally};
 ghost use Rattle.watch_causes.specs.Counting.{AreApart, AreOfOneFinding, example_of, finding_count, findings_in, findings_of, sum_of, verdicts_in, verdicts_of};
-ghost use Rattle.watch_causes.specs.Findings.{Judged, cause_of, cause_with, finding_of};
+ghost use Rattle.watch_causes.specs.Findings.{Judged, cause_by, cause_of, cause_with, finding_of};
+ghost use Rattle.watch_causes.specs.KnownFindings.{KnownEntry, Sourced, counts_of, finding, first_of, is_known, known_count};
+ghost use Rattle.watch_causes.specs.KnownSoFar.{HasKnown};
 ghost use Rattle.watch_causes.specs.Tallies.{is_of, tallies_of};
 
 /// The flush that a record ends is the one that is open under its token: the newest record that
@@ -69,4 +73,33 @@ pub fn tallies_add_up()
 #[tactic(auto, using(crate::proofs::Apart::tallies_apart))]
 pub fn cause_has_one_tally()
     ensures { (verdicts : List Judged) → AreApart (tallies_of verdicts) }
+{}
+
+/// Without entries nothing is known, and nothing has to be kept.
+pub fn without_entries_nothing_is_known()
+    ensures known { (next : Sourced) (verdicts : List Sourced) → is_known [] next verdicts ≡ false }
+    ensures kept { (scheme : Scheme) (trace later : Trace) (verdicts next : List Sourced)
+        (k : KnownFindings) → HasKnown [] scheme trace verdicts k → HasKnown [] scheme later next k }
+{}
+
+/// A finding is known as a whole: two of its verdicts agree, whatever stands between.
+#[tactic(auto, using(crate::proofs::FirstVerdicts::as_a_whole))]
+pub fn finding_is_known_as_a_whole()
+    ensures { (known : List KnownEntry) (a b : Sourced) (before between : List Sourced)
+        → finding a ≡ finding b → is_known known b (between ++ a ∷ before) ≡ is_known known a before }
+{}
+
+/// The verdict that begins a finding is the one that makes its cause.
+#[tactic(auto, using(crate::proofs::FirstVerdicts::makes_the_cause))]
+pub fn first_verdict_makes_the_cause()
+    ensures { (f : Finding) (verdicts : List Sourced)
+        → option_map (λ (v : Sourced). cause_by v.judged) (first_of verdicts f)
+        ≡ cause_of (map (λ (v : Sourced). v.judged) verdicts) f }
+{}
+
+/// The findings that the entries count are all that are known.
+#[tactic(auto, using(crate::proofs::KnownCounts::counts_add_up))]
+pub fn known_findings_add_up()
+    ensures { (known : List KnownEntry) (verdicts : List Sourced)
+        → sum (counts_of known verdicts) ≡ known_count known verdicts }
 {}

@@ -8,6 +8,8 @@ mod choice;
 mod fences;
 mod finding;
 mod findings;
+mod known;
+mod known_findings;
 mod laws;
 mod log;
 mod reason;
@@ -15,20 +17,26 @@ mod reasons;
 mod role;
 mod stories;
 mod tally;
+mod worked_known;
 mod worked_reasons;
 mod worked_stories;
 mod worked_tallies;
 
 pub use causes::Causes;
 pub use finding::Cause;
+pub use known::Known;
+pub use known_findings::KnownFindings;
 pub use laws::{
-    cause_has_one_tally, ended_flush_is_the_open_one, finding_has_one_cause, tallies_add_up,
-    tallies_count_their_causes, verdict_has_one_finding,
+    cause_has_one_tally, ended_flush_is_the_open_one, finding_has_one_cause,
+    finding_is_known_as_a_whole, first_verdict_makes_the_cause, known_findings_add_up,
+    tallies_add_up, tallies_count_their_causes, verdict_has_one_finding,
+    without_entries_nothing_is_known,
 };
 pub use reason::Reason;
 pub use role::Role;
 pub use stories::{Part, last_warnings, story};
 pub use tally::{Example, Tally, Verdicts};
+pub use worked_known::{worked_counts, worked_entries, worked_first_verdicts};
 pub use worked_reasons::{worked_claims, worked_fences, worked_frees};
 pub use worked_stories::{worked_roles_before, worked_roles_since, worked_story};
 pub use worked_tallies::{worked_causes, worked_findings};

@@ -69,6 +69,7 @@ impl Log {
     }
 
     /// Takes the next record.
+    #[inline(always)]
     pub(crate) fn add(&mut self, newest: Record) -> Result<(), AllocError>
         requires { self.old.count < 2 ^ 64 - 1 }
         ensures ok { (trace : Trace) → Follows trace self.old

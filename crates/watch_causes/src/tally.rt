@@ -41,7 +41,7 @@ pub struct Tally {
 }
 
 /// One more, if so. Refused where the count has no room in 64 bits.
-fn more_if(count: u64, is_more: bool) -> Result<u64, AllocError>
+pub(crate) fn more_if(count: u64, is_more: bool) -> Result<u64, AllocError>
     ensures { IfOk result (λ more. more ≡ more_if is_more count) }
 {
     if !is_more {
