@@ -64,7 +64,7 @@ fn verdicts_are_printed(rt: HostRuntime) {
     };
     let mut text = Vec::new(rt.alloc());
     push_warning(&mut text, b"boot.watch", &warning, b"unmap", b"").expect(&rt, "room");
-    push_summary(&mut text, 18, None, &user, &VerdictCounts::default()).expect(&rt, "room");
+    push_summary(&mut text, 18, None, &user, &VerdictCounts::default(), None).expect(&rt, "room");
     let wanted =
         b"boot.watch:18: free hart 11 may hold page 1000+1000 -> 100 r---- asid a root 80000, \
         stale since line 6 by unmap; frames 100+1 given back\n18 records, 1 verdict: free 1\n";

@@ -18,9 +18,8 @@ use Rattle.watch_report.specs.declared.reading.Reading.{Reading}
 use Rattle.watch_report.specs.Ending.{Ends, EndsBy, IsAtLine, Tells, report_at}
 use Rattle.watch_report.specs.Output.{WritesAll, WritesFront}
 use Rattle.watch_report.specs.Reading.{FailsAtEnd, FailsAtLine, IsReadFault, Stands, report_fault_of}
-use Rattle.watch_report.specs.TraceText.{Noted, body_of, fault_in, faulty_line, has_no_form, header_of, lines_of, records_of, said_first, trace_of, with_record}
-use Rattle.watch_report.specs.VerdictLines.{GivesVerdict}
-use Rattle.watch_report.specs.Reports.{Told, VerdictText, WholeText, told_text}
+use Rattle.watch_report.specs.TraceText.{Noted, body_of, fault_in, faulty_line, has_no_form, header_of, lines_of, records_of, said_first, with_record}
+use Rattle.watch_report.specs.Reports.{TellsVerdict, Told, VerdictText, WholeText, told_of_taken, told_text}
 use Rattle.watch_report.proofs.ReadLemmas.{AreTaken, IsText, all_formed, more_taken, records_of_all, records_of_front, stops}
 
 -- ---- within the lines after the header
@@ -28,7 +27,7 @@ use Rattle.watch_report.proofs.ReadLemmas.{AreTaken, IsText, all_formed, more_ta
 -- of these lines all is written
 pub written_of : (told : Told) (start out : Option (List ℕ)) (header : Header) (records : List Noted) (r : Reading) → r.header ≡ header → Stands told start out records r → WritesAll (VerdictText told header.scheme records) start out
 written_of told start out header records r e at =
-    subst (λ (h : Header). WritesAll (VerdictText told h.scheme records) start out) e (told_text told r.header.scheme records at.given, (at.given, at.seen.are, refl), at.written)
+    subst (λ (h : Header). WritesAll (VerdictText told h.scheme records) start out) e (told_text told r.header.scheme records (told_of_taken told r.header.scheme records at.taken), (at.taken, at.seen.are, refl), at.written)
 
 pub ends_within : (told : Told) (header : Header) (read tail : List (List ℕ)) (records : List Noted) (start out : Option (List ℕ)) → AreTaken header read records → WritesAll (VerdictText told header.scheme records) start out
     → EndsBy told (Ok header) (read ++ tail) (Err reported.NoMemory) start out
@@ -77,7 +76,7 @@ ends_at_line told BrokenPipeWarned header number read tail line records start ou
       tail,
       append_assoc read (line ∷ []) tail,
       faultless header front _ taken,
-      subst (λ (r : List Noted). GivesVerdict told.filter header.scheme (trace_of r)) all fails.1,
+      subst (λ (r : List Noted). TellsVerdict told header.scheme r) all fails.1,
       subst (λ (r : List Noted). WritesFront (VerdictText told header.scheme r) start out) all fails.2,
     )
 ends_at_line told NoMemory header number read tail line records start out e at fails = ends_within told header read (line ∷ tail) records start out at fails
@@ -230,7 +229,7 @@ none_told told (Ok header) = ([], ([], tt, refl, tt), refl)
 none_written : (told : Told) (said : Result Header (List ℕ)) (start : Option (List ℕ)) → WritesAll (Tells told said []) start start
 none_written told said start = ([], none_told told said, Appends-nil start)
 
-ends_unbegun : (told : Told) (fault : ReadingFault) (said : Result Header (List ℕ)) (lines : List (List ℕ)) (start : Option (List ℕ)) → IsReadFault fault → EndsBy told said lines (Err (report_fault_of fault)) start start
+pub ends_unbegun : (told : Told) (fault : ReadingFault) (said : Result Header (List ℕ)) (lines : List (List ℕ)) (start : Option (List ℕ)) → IsReadFault fault → EndsBy told said lines (Err (report_fault_of fault)) start start
 ends_unbegun told Unreadable said lines start is = ([], lines, refl, none_written told said start)
 ends_unbegun told Output said lines start is = absurd is
 ends_unbegun told BrokenPipe said lines start is = absurd is

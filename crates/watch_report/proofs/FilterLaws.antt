@@ -20,14 +20,14 @@ use Rattle.watch_report.specs.declared.filter.Kind.{Kind}
 use Rattle.watch_report.specs.declared.warning.Warning.{Warning as PrintedWarning}
 use Rattle.watch_report.specs.Filters.{AreTakenAt, has_kind, kind_in, kind_of, kind_text, no_filter, takes, verdict_in}
 use Rattle.watch_report.specs.TraceText.{Noted, trace_of}
-use Rattle.watch_report.specs.VerdictLines.{AreGiven, AreInOrder, AreTold}
+use Rattle.watch_report.specs.VerdictLines.{AreGiven, AreInOrder, AreTakenBy}
 use Rattle.watch_report.specs.Orders.{IsInOrder}
 use Rattle.watch_report.specs.Warnings.{owner_prefix, place_text, verdict_of, verdict_part, verdict_text}
 use Rattle.watch_report.proofs.FilterLemmas.{all_taken, from_kept, same_taken, to_kept}
 
 -- ---- what is told of
 
-pub told_is_given : (scheme : Scheme) (records : List Noted) (given : List (List Warning)) → AreTold no_filter scheme records given ↔ AreGiven scheme records given × AreInOrder given
+pub told_is_given : (scheme : Scheme) (records : List Noted) (given : List (List Warning)) → AreTakenBy no_filter scheme records given ↔ AreGiven scheme records given × AreInOrder given
 told_is_given scheme records given = (
   λ told. (subst (λ (g : List (List Warning)). AreGiven scheme records g) (sym (told.2 ∙ all_taken told.0)) told.1, told.3),
   λ are. (given, are.0, sym (all_taken given), are.1),
@@ -46,12 +46,12 @@ taken_at filter scheme newest trace warnings are =
       once = AllPairs-filter AreApart (takes filter) warnings are.once;
     }
 
-pub told_before : (filter : Filter) (scheme : Scheme) (newest : Noted) (records : List Noted) (warnings : List Warning) (told : List (List Warning)) → AreTold filter scheme (newest ∷ records) (warnings ∷ told)
-    → AreTold filter scheme records told
+pub told_before : (filter : Filter) (scheme : Scheme) (newest : Noted) (records : List Noted) (warnings : List Warning) (told : List (List Warning)) → AreTakenBy filter scheme (newest ∷ records) (warnings ∷ told)
+    → AreTakenBy filter scheme records told
 told_before filter scheme newest records warnings told ([], are, is, order) = absurd are
 told_before filter scheme newest records warnings told (all ∷ given, are, is, order) = (given, are.1, ap (drop 1) is, order.1)
 
-pub told_is_taken : (filter : Filter) (scheme : Scheme) (newest : Noted) (records : List Noted) (warnings : List Warning) (told : List (List Warning)) → AreTold filter scheme (newest ∷ records) (warnings ∷ told)
+pub told_is_taken : (filter : Filter) (scheme : Scheme) (newest : Noted) (records : List Noted) (warnings : List Warning) (told : List (List Warning)) → AreTakenBy filter scheme (newest ∷ records) (warnings ∷ told)
     → AreTakenAt filter scheme newest.made (trace_of records) warnings × IsInOrder warnings
 told_is_taken filter scheme newest records warnings told ([], are, is, order) = absurd are
 told_is_taken filter scheme newest records warnings told (all ∷ given, are, is, order) =

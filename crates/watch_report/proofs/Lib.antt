@@ -31,6 +31,9 @@ mod ExplainLemmas
 mod NoFeeds
 pub mod StoryLaws
 pub mod WorkedReports
+pub mod WorkedJson
+pub mod WorkedMost
+pub mod JsonLaws
 pub mod WorkedFilters
 pub mod WorkedStories
 mod TextLemmas
@@ -39,5 +42,9 @@ mod RunLemmas
 pub mod StandingLemmas
 mod BlockLemmas
 mod StoryLemmas
+pub mod KnownLemmas
+mod KnownLaws
 pub mod FaultLaws
 pub mod WorkedFaults
+pub mod WorkedKnownTexts
+pub mod WorkedKnownReports

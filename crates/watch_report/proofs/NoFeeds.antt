@@ -34,7 +34,7 @@ pub record Quiet (text : List ℕ) : Type 0 where
 pub word : (text : List ℕ) → HasNoFeed text → Quiet text
 word text none = record { none = none }
 
-either : (a b : Bool) → a ≡ false → b ≡ false → (a || b) ≡ false
+pub either : (a b : Bool) → a ≡ false → b ≡ false → (a || b) ≡ false
 either a b e f = rw (e, f) refl
 
 infixl 5 ◌⊕◌
@@ -43,14 +43,14 @@ pub ◌⊕◌ : {a b : List ℕ} → Quiet a → Quiet b → Quiet (a ++ b)
 
 -- ---- numbers
 
-no_glyph : (b : Bool) (d : ℕ) → cond b (48 + d) (87 + d) ≡ 10 → ⊥
+pub no_glyph : (b : Bool) (d : ℕ) → cond b (48 + d) (87 + d) ≡ 10 → ⊥
 no_glyph true d e = omega (arith, e)
 no_glyph false d e = omega (arith, e)
 
 one_more : (d : ℕ) (written : List ℕ) → HasNoFeed written → HasNoFeed (digit_glyph false d ∷ written)
 one_more d written none = either (is_feed (digit_glyph false d)) (list_any is_feed written) (ne_eqb (digit_glyph false d) 10 (no_glyph (nat_lt d 10) d)) none
 
-of_two : (b : Bool) (one two : List ℕ) → HasNoFeed one → HasNoFeed two → HasNoFeed (cond b one two)
+pub of_two : (b : Bool) (one two : List ℕ) → HasNoFeed one → HasNoFeed two → HasNoFeed (cond b one two)
 of_two true one two p q = p
 of_two false one two p q = q
 
@@ -102,7 +102,7 @@ letter : (b : Bool) (text : List ℕ) → Quiet text → Quiet (letter_or_dash b
 letter true text q = q
 letter false text q = word (codes "-") refl
 
-letters : (global : Bool) (bits : ℕ) → Quiet (letters_text global bits)
+pub letters : (global : Bool) (bits : ℕ) → Quiet (letters_text global bits)
 letters global bits =
     letter (may_read bits) (codes "r") (word (codes "r") refl) ⊕ letter (may_write bits) (codes "w") (word (codes "w") refl)
     ⊕ letter (may_execute bits) (codes "x") (word (codes "x") refl) ⊕ letter (is_user bits) (codes "u") (word (codes "u") refl)
@@ -121,7 +121,7 @@ owner : (global : Bool) → Quiet (owner_prefix global)
 owner true = word (codes "kernel-") refl
 owner false = word [] refl
 
-verdict : (v : Verdict) → Quiet (verdict_text v)
+pub verdict : (v : Verdict) → Quiet (verdict_text v)
 verdict Free = word (codes "free") refl
 verdict Reuse = word (codes "reuse") refl
 verdict Claimed = word (codes "claim") refl

@@ -14,13 +14,14 @@ use Rattle.watch_engine.specs.declared.warning.Warning.{Warning}
 use Rattle.watch_engine.specs.Warnings.{AreWarnings, shown_of}
 use Rattle.watch_report.specs.declared.line_fault.LineFault.{LineFault}
 use Rattle.watch_report.specs.Filters.{no_filter}
-use Rattle.watch_report.specs.TraceText.{Noted, body_of, records_of, trace_of}
+use Rattle.watch_report.specs.TraceText.{Noted, body_of, records_of}
 use Rattle.watch_report.specs.declared.detail.Detail.TheVariants.{Causes, Counts, Verdicts}
-use Rattle.watch_report.specs.Reports.{WholeText, end_text, told_text}
+use Rattle.watch_report.specs.Reports.{TellsVerdict, WholeText, end_text, told_of_taken, told_text}
 use Rattle.watch_report.specs.Orders.{order_key}
 use Rattle.watch_report.specs.VerdictLines.{AreGiven, GivesVerdict}
 use Rattle.watch_report.specs.WorkedReports as rows
 use Rattle.watch_report.proofs.FilterLemmas.{all_taken}
+use Rattle.watch_report.proofs.KnownLaws.{told_is_due}
 use Rattle.watch_report.proofs.OrderLemmas.{one_in_order}
 
 -- no verdict at the first record, which is an access
@@ -44,21 +45,21 @@ gives_none scheme of address (inr nothing) = nothing
 
 whole : (scheme : Scheme) (of address : ℕ) (by : List ℕ) (line : ℕ) → WholeText (rows.about Verdicts) None scheme (record { made = Use of address; by = by; line = line } ∷ []) false (codes "1 record, no verdict\n")
 unfolding digits
-whole scheme of address by line = ([] ∷ [], ([] ∷ [], (none_at_first scheme of address, tt), refl, (one_in_order [] (omega arith), tt)), refl, (λ t. absurd (false≢true t), λ gives. absurd (gives_none scheme of address gives)))
+whole scheme of address by line = ([] ∷ [], ([] ∷ [], (none_at_first scheme of address, tt), refl, (one_in_order [] (omega arith), tt)), refl, refl)
 
 -- the last line says which line is wrong
 before_a_fault : (of address : ℕ) (by : List ℕ) (line : ℕ) → WholeText (rows.about Verdicts) (Some 3) Sv39 (record { made = Use of address; by = by; line = line } ∷ []) false (codes "1 record before line 3, no verdict\n")
 unfolding digits
-before_a_fault of address by line = ([] ∷ [], ([] ∷ [], (none_at_first Sv39 of address, tt), refl, (one_in_order [] (omega arith), tt)), refl, (λ t. absurd (false≢true t), λ gives. absurd (gives_none Sv39 of address gives)))
+before_a_fault of address by line = ([] ∷ [], ([] ∷ [], (none_at_first Sv39 of address, tt), refl, (one_in_order [] (omega arith), tt)), refl, refl)
 
 -- nor is anything told in another detail
 whole_by_causes : (of address : ℕ) (by : List ℕ) (line : ℕ) → WholeText (rows.about Causes) None Sv39 (record { made = Use of address; by = by; line = line } ∷ []) false (codes "1 record, no verdict\n")
 unfolding digits
-whole_by_causes of address by line = ([] ∷ [], ([] ∷ [], (none_at_first Sv39 of address, tt), refl, (one_in_order [] (omega arith), tt)), refl, (λ t. absurd (false≢true t), λ gives. absurd (gives_none Sv39 of address gives)))
+whole_by_causes of address by line = ([] ∷ [], ([] ∷ [], (none_at_first Sv39 of address, tt), refl, (one_in_order [] (omega arith), tt)), refl, refl)
 
 whole_by_counts : (of address : ℕ) (by : List ℕ) (line : ℕ) → WholeText (rows.about Counts) None Sv39 (record { made = Use of address; by = by; line = line } ∷ []) false (codes "1 record, no verdict\n")
 unfolding digits
-whole_by_counts of address by line = ([] ∷ [], ([] ∷ [], (none_at_first Sv39 of address, tt), refl, (one_in_order [] (omega arith), tt)), refl, (λ t. absurd (false≢true t), λ gives. absurd (gives_none Sv39 of address gives)))
+whole_by_counts of address by line = ([] ∷ [], ([] ∷ [], (none_at_first Sv39 of address, tt), refl, (one_in_order [] (omega arith), tt)), refl, refl)
 
 pub done : rows.done
 unfolding rows.PrintsBy
@@ -72,7 +73,7 @@ done_without_a_feed = (refl, (_, whole Sv48 1 0x1000 [] 2, refl))
 
 pub header_alone : rows.header_alone
 unfolding digits rows.PrintsBy
-header_alone = (refl, (codes "0 records, no verdict\n", ([], ([], tt, refl, tt), refl, (λ t. absurd (false≢true t), λ gives. absurd gives)), refl))
+header_alone = (refl, (codes "0 records, no verdict\n", ([], ([], tt, refl, tt), refl, refl), refl))
 
 pub no_line : rows.no_line
 unfolding rows.PrintsBy
@@ -132,11 +133,11 @@ done_with_a_fault ends = let same : 3 ≡ 0 = ap number_in ends.0 in omega (arit
 
 pub warned_without_a_verdict : rows.warned_without_a_verdict
 unfolding rows.PrintsBy
-warned_without_a_verdict (none, (text, (given, are, is, says), written)) = gives_none Sv39 1 0x1000 (says.0 refl)
+warned_without_a_verdict (none, (text, (given, are, is, says), written)) = gives_none Sv39 1 0x1000 (told_is_due [] no_filter Sv39 (record { made = Use 1 0x1000; by = codes "here"; line = 5 } ∷ []) given are (sym says))
 
 pub warned_at_a_fault : rows.warned_at_a_fault
 unfolding rows.PrintsBy
-warned_at_a_fault (number, fault, (text, (given, are, is, says), written)) = gives_none Sv39 0 0x1000 (says.0 refl)
+warned_at_a_fault (number, fault, (text, (given, are, is, says), written)) = gives_none Sv39 0 0x1000 (told_is_due [] no_filter Sv39 (record { made = Use 0 0x1000; by = []; line = 2 } ∷ []) given are (sym says))
 
 pub warned_without_a_header : rows.warned_without_a_header
 unfolding rows.PrintsBy
@@ -159,14 +160,14 @@ no_end (first ∷ before) byte rest e = no_bytes first (before ++ byte ∷ rest)
 
 pub no_last_line_at_a_fault : rows.no_last_line_at_a_fault
 unfolding digits rows.PrintsBy
-no_last_line_at_a_fault (number, fault, (text, (given, are, is, says), written)) = no_end (told_text (rows.about Verdicts) Sv39 one_use given) _ _ (written ∙ is)
+no_last_line_at_a_fault (number, fault, (text, (given, are, is, says), written)) = no_end (told_text (rows.about Verdicts) Sv39 one_use (told_of_taken (rows.about Verdicts) Sv39 one_use given)) _ _ (written ∙ is)
 
 differ : (told other : List ℕ) → bytes_eq told other ≡ false → bytes_eq other other ≡ true → told ≡ other → ⊥
 differ told other is self same = false≢true (sym is ∙ ap (λ (t : List ℕ). bytes_eq t other) same ∙ self)
 
 -- no warnings at the one record give a last line as of a whole trace
 never_whole : (given : List (List Warning)) → AreGiven Sv39 one_use given
-    → codes "1 record, no verdict\n" ≡ told_text (rows.about Verdicts) Sv39 one_use given ++ end_text (rows.about Verdicts) (Some 3) Sv39 one_use given → ⊥
+    → codes "1 record, no verdict\n" ≡ told_text (rows.about Verdicts) Sv39 one_use (told_of_taken (rows.about Verdicts) Sv39 one_use given) ++ end_text (rows.about Verdicts) (Some 3) Sv39 one_use given → ⊥
 unfolding digits
 never_whole [] are e = are
 never_whole ([] ∷ []) are e = differ _ _ refl refl e
@@ -183,14 +184,14 @@ pub unread_before_a_fault : rows.unread_before_a_fault
 unfolding rows.PrintsBy
 unread_before_a_fault ends = let same : 3 ≡ 0 = ap number_in ends.0 in omega (arith, same)
 
-none_before : (front back : List (List ℕ)) → front ++ back ≡ [] → GivesVerdict no_filter Sv39 (trace_of (records_of (record { harts = 2; scheme = Sv39 }) front)) → ⊥
-none_before [] back e gives = gives
-none_before (line ∷ front) back e gives = let long = ap length e in omega (arith, long)
+none_before : (front back : List (List ℕ)) → front ++ back ≡ [] → TellsVerdict (rows.about Verdicts) Sv39 (records_of (record { harts = 2; scheme = Sv39 }) front) → ⊥
+none_before [] back e (given, are, says) = false≢true says
+none_before (line ∷ front) back e tells = let long = ap length e in omega (arith, long)
 
 pub unread_without_a_verdict : rows.unread_without_a_verdict
 unfolding rows.PrintsBy
 unread_without_a_verdict (inl (front, back, e, none, gives, written)) = none_before front back e gives
-unread_without_a_verdict (inr (none, (text, (given, are, is, says), written))) = says.0 refl
+unread_without_a_verdict (inr (none, (text, (given, are, is, says), written))) = false≢true (sym says)
 
 abbrev accessed : List Noted
 accessed = record { made = Use 1 0x1000; by = codes "here"; line = 5 } ∷ []
@@ -201,7 +202,7 @@ other_first (suc k) rest e = let same : 110 ≡ 49 = ap (λ (l : List ℕ). get_
 
 -- no warnings at the one record give a last line that begins otherwise
 never_other : (k : ℕ) (given : List (List Warning)) → AreGiven Sv39 accessed given
-    → codes "no" ≡ take k (told_text (rows.about Verdicts) Sv39 accessed given ++ end_text (rows.about Verdicts) None Sv39 accessed given) → ⊥
+    → codes "no" ≡ take k (told_text (rows.about Verdicts) Sv39 accessed (told_of_taken (rows.about Verdicts) Sv39 accessed given) ++ end_text (rows.about Verdicts) None Sv39 accessed given) → ⊥
 unfolding digits
 never_other k [] are e = are
 never_other k ([] ∷ []) are e = other_first k _ e

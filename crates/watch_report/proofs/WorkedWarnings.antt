@@ -57,4 +57,16 @@ one_before_a_wrong_line = refl
 
 pub ruleset warning_lines = (given_back, given_out, below_a_global_pointer, claimed, used)
 
-pub ruleset summary_lines = (no_verdict, one_record, one_verdict, some_verdicts, verdicts_of_both, all_verdicts, before_a_wrong_line, one_before_a_wrong_line)
+pub none_by_design : lines.none_by_design
+unfolding digits
+none_by_design = refl
+
+pub one_by_design : lines.one_by_design
+unfolding digits
+one_by_design = refl
+
+pub many_by_design : lines.many_by_design
+unfolding digits
+many_by_design = refl
+
+pub ruleset summary_lines = (no_verdict, one_record, one_verdict, some_verdicts, verdicts_of_both, all_verdicts, before_a_wrong_line, one_before_a_wrong_line, none_by_design, one_by_design, many_by_design)

@@ -8,9 +8,8 @@ use Rattle.watch_report.specs.declared.reading_fault.ReadingFault.{ReadingFault}
 use Rattle.watch_report.specs.declared.reading_fault.ReadingFault.TheVariants as reading
 use Rattle.watch_report.specs.Output.{WritesAll, WritesFront}
 use Rattle.watch_report.specs.Reading.{report_fault_of}
-use Rattle.watch_report.specs.TraceText.{body_of, fault_in, faulty_line, header_of, records_of, trace_of}
-use Rattle.watch_report.specs.VerdictLines.{GivesVerdict}
-use Rattle.watch_report.specs.Reports.{Told, VerdictText, WholeText}
+use Rattle.watch_report.specs.TraceText.{body_of, fault_in, faulty_line, header_of, records_of}
+use Rattle.watch_report.specs.Reports.{TellsVerdict, Told, VerdictText, WholeText}
 
 -- what is printed of lines after the first: what is told of each record before the first line that has
 -- no form; and nothing where the first line is no header
@@ -18,7 +17,7 @@ abbrev pub Tells : Told → Result Header (List ℕ) → List (List ℕ) → Lis
 Tells told (Err first) lines text = text ≡ []
 Tells told (Ok header) lines text = VerdictText told header.scheme (records_of header lines) text
 
--- and after that the last lines; and whether there is a verdict
+-- and after that the last lines; and whether a verdict is told
 abbrev pub TellsAll : Told → Result Header (List ℕ) → List (List ℕ) → Bool → List ℕ → Type 0
 TellsAll told (Err first) lines some text = (some ≡ false) × (text ≡ [])
 TellsAll told (Ok header) lines some text =
@@ -31,20 +30,20 @@ EndsWithin Writes told said lines old new =
     (front : List (List ℕ)) × (back : List (List ℕ)) × (front ++ back ≡ lines)
     × Writes (Tells told said front) old new
 
--- and there is a verdict on them, which all have a form
+-- and a verdict on them is told, and they all have a form
 abbrev pub Warns : Told → Result Header (List ℕ) → List (List ℕ) → Type 0
 Warns told (Err first) lines = ⊥
-Warns told (Ok header) lines = GivesVerdict told.filter header.scheme (trace_of (records_of header lines))
+Warns told (Ok header) lines = TellsVerdict told header.scheme (records_of header lines)
 
 abbrev pub EndsWarned : Told → Result Header (List ℕ) → List (List ℕ) → Option (List ℕ) → Option (List ℕ) → Type 0
 EndsWarned told said lines old new =
     (front : List (List ℕ)) × (back : List (List ℕ)) × (front ++ back ≡ lines)
     × (faulty_line said front ≡ None) × Warns told said front × WritesFront (Tells told said front) old new
 
--- how it ends for what the first line says and these lines after it: done, and whether there is a
--- verdict; at the first line that has no form, by its fault, and whether there is a verdict before it;
--- or within the lines, where the reader or the writer fails, or memory runs out. Where nobody reads what
--- is written any more it ends after the first of the lines, on which there is a verdict, or after all
+-- how it ends for what the first line says and these lines after it: done, and whether a verdict is
+-- told; at the first line that has no form, by its fault, and whether a verdict is told before it; or
+-- within the lines, where the reader or the writer fails, or memory runs out. Where nobody reads what is
+-- written any more it ends after the first of the lines, on which a verdict is told, or after all
 abbrev pub EndsBy : Told → Result Header (List ℕ) → List (List ℕ) → Result Bool ReportFault
     → Option (List ℕ) → Option (List ℕ) → Type 0
 EndsBy told said lines (Ok some) old new =

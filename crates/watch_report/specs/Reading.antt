@@ -1,11 +1,13 @@
 -- A trace that is being read.
 use Rattle.std.specs.Prelude.{ℕ, Bool, true, false, ◌≡◌, List, [], ◌∷◌, ◌++◌, length, Option, OnSome, if◌then◌else◌}
 use Rattle.std.specs.Io.KnownBytes.{Appends, Consumes, IsAtEnd}
+use Rattle.watch_causes.specs.KnownSoFar.{HasKnown}
 use Rattle.watch_engine.specs.declared.warning.Warning.{Warning}
 use Rattle.watch_engine.specs.Watching.{Follows}
 use Rattle.watch_tables.specs.Words.{since, words}
 use Rattle.watch_report.specs.declared.fault.ReportFault.{ReportFault}
-use Rattle.watch_report.specs.declared.filter.Filter.{Filter}
+use Rattle.watch_report.specs.declared.options.Options.{Options}
+use Rattle.watch_report.specs.KnownLists.{KnownIn}
 use Rattle.watch_report.specs.declared.fault.ReportFault.TheVariants as reported
 use Rattle.watch_report.specs.declared.reading_fault.ReadingFault.{ReadingFault}
 use Rattle.watch_report.specs.declared.reading_fault.ReadingFault.TheVariants.{Unreadable, Output, BrokenPipe, BrokenPipeWarned, NoMemory}
@@ -18,10 +20,10 @@ use Rattle.watch_report.specs.TraceLines.{line_in}
 use Rattle.watch_report.specs.Past.{ArePast}
 use Rattle.watch_report.specs.Output.{WritesAll, WritesFront}
 use Rattle.watch_report.specs.TraceText.{Noted, has_no_form, lines_of, trace_of, with_record}
-use Rattle.watch_report.specs.Reports.{Told, VerdictText, WholeText, told_at, told_text}
+use Rattle.watch_report.specs.KnownVerdicts.{unknown, unknown_at, verdicts_so_far}
+use Rattle.watch_report.specs.Reports.{TellsVerdict, Told, VerdictText, WholeText, told_at, told_of_taken, told_text}
 use Rattle.watch_report.specs.Telling.{IsTelling}
-use Rattle.watch_report.specs.VerdictLines.{AreTold, GivesVerdict, counts_of}
-use Rattle.watch_report.specs.declared.detail.Detail.{Detail}
+use Rattle.watch_report.specs.VerdictLines.{AreTakenBy, counts_of}
 
 -- the bytes are the line, and its line feed if more come after it
 abbrev pub CutsLine : Bool → List ℕ → List ℕ → Type 0
@@ -61,31 +63,39 @@ unwritten write.BrokenPipe some = if some then BrokenPipeWarned else BrokenPipe
 unwritten write.Failed some = Output
 
 -- these records were read, with these warnings that the filter takes
-pub record HasSeen (detail : Detail) (filter : Filter) (records : List Noted) (given : List (List Warning))
+pub record HasSeen (options : Options) (known : KnownIn) (records : List Noted) (taken : List (List Warning))
     (r : Reading) : Type 0 where
   pub follows : Follows words since (trace_of records) r.watch
   pub scheme : r.watch.scheme ≡ r.header.scheme
-  pub filter_is : r.filter ≡ filter
-  pub are : AreTold filter r.header.scheme records given
+  pub options_are : r.options ≡ options
+  pub are : AreTakenBy options.filter r.header.scheme records taken
   pub number : r.records ≡ length records
   pub past : ArePast records r.past
-  pub telling : IsTelling detail r.header.scheme records given r.telling
-  pub user : r.user ≡ counts_of false given
-  pub kernel : r.kernel ≡ counts_of true given
+  pub has_known : HasKnown known.entries r.header.scheme (trace_of records) (verdicts_so_far r.header.scheme records taken) r.known
+  pub telling : IsTelling options r.header.scheme records (unknown known.entries r.header.scheme records taken) r.telling
+  pub user : r.user ≡ counts_of false (unknown known.entries r.header.scheme records taken)
+  pub kernel : r.kernel ≡ counts_of true (unknown known.entries r.header.scheme records taken)
+
+-- what is told at the next record, where the filter takes these warnings
+abbrev pub next_text : Told → Scheme → Noted → List Noted → List Warning → List (List Warning) → List ℕ
+next_text told scheme newest records warnings taken =
+    told_at told.options told.file scheme newest records
+    (unknown_at told.known.entries scheme newest records warnings (verdicts_so_far scheme records taken))
+    (told_of_taken told scheme records taken)
 
 -- one more was read, of which this is told
-pub record TellsMore (detail : Detail) (filter : Filter) (file : List ℕ) (newest : Noted) (records : List Noted)
-    (given : List (List Warning)) (text : List ℕ) (r : Reading) : Type 0 where
+pub record TellsMore (told : Told) (newest : Noted) (records : List Noted) (taken : List (List Warning))
+    (text : List ℕ) (r : Reading) : Type 0 where
   pub warnings : List Warning
-  pub seen : HasSeen detail filter (newest ∷ records) (warnings ∷ given) r
-  pub told : text ≡ told_at detail file r.header.scheme newest records warnings given
+  pub seen : HasSeen told.options told.known (newest ∷ records) (warnings ∷ taken) r
+  pub is_told : text ≡ next_text told r.header.scheme newest records warnings taken
 
 -- and what is told of them was written
 pub record Stands (told : Told) (start out : Option (List ℕ)) (records : List Noted)
     (r : Reading) : Type 0 where
-  pub given : List (List Warning)
-  pub seen : HasSeen told.detail told.filter records given r
-  pub written : Appends start out (told_text told r.header.scheme records given)
+  pub taken : List (List Warning)
+  pub seen : HasSeen told.options told.known records taken r
+  pub written : Appends start out (told_text told r.header.scheme records (told_of_taken told r.header.scheme records taken))
 
 -- what was written where a step fails at a record, a line, or the end, after these records: nothing is
 -- written of a record without a verdict
@@ -96,7 +106,7 @@ FailsAtRecord Output told scheme newest records start out =
     WritesFront (VerdictText told scheme (newest ∷ records)) start out
 FailsAtRecord BrokenPipe told scheme newest records start out = ⊥
 FailsAtRecord BrokenPipeWarned told scheme newest records start out =
-    GivesVerdict told.filter scheme (trace_of (newest ∷ records))
+    TellsVerdict told scheme (newest ∷ records)
     × WritesFront (VerdictText told scheme (newest ∷ records)) start out
 FailsAtRecord NoMemory told scheme newest records start out =
     WritesAll (VerdictText told scheme records) start out
@@ -111,7 +121,7 @@ FailsAtLine Output told header number line records start out =
 FailsAtLine BrokenPipe told header number line records start out = ⊥
 FailsAtLine BrokenPipeWarned told header number line records start out =
     (has_no_form header line ≡ false)
-    × GivesVerdict told.filter header.scheme (trace_of (with_record (line_in header line) number records))
+    × TellsVerdict told header.scheme (with_record (line_in header line) number records)
     × WritesFront (VerdictText told header.scheme (with_record (line_in header line) number records))
     start out
 FailsAtLine NoMemory told header number line records start out =

@@ -14,12 +14,13 @@ use Rattle.watch_engine.specs.Warnings.{AreWarnings, IsDue}
 use Rattle.watch_report.specs.declared.counts.VerdictCounts.{VerdictCounts}
 use Rattle.watch_report.specs.declared.filter.Filter.{Filter}
 use Rattle.watch_report.specs.declared.newest.Newest.{Newest}
+use Rattle.watch_report.specs.declared.options.Form.{Form}
 use Rattle.watch_report.specs.declared.warning.Trigger.{Trigger}
 use Rattle.watch_report.specs.declared.warning.Trigger.TheVariants.{GivenBack, GivenOut, ClaimedSince, UsedAt}
 use Rattle.watch_report.specs.declared.warning.Warning.{Warning as PrintedWarning}
 use Rattle.watch_report.specs.Filters.{taken, takes_of}
+use Rattle.watch_report.specs.Forms.{summary_as, verdict_as}
 use Rattle.watch_report.specs.Orders.{IsInOrder}
-use Rattle.watch_report.specs.Warnings.{summary_line, warning_line}
 use Rattle.watch_report.specs.TraceText.{Noted, line_at, note_at, trace_of}
 
 -- a verdict that the filter takes is given at some record of the trace, and is new there
@@ -43,13 +44,13 @@ AreGiven scheme (newest ∷ records) (warnings ∷ given) =
 
 abbrev pub AreInOrder : List (List Warning) → Type 0
 AreInOrder [] = Unit {0}
-AreInOrder (warnings ∷ told) = IsInOrder warnings × AreInOrder told
+AreInOrder (warnings ∷ given) = IsInOrder warnings × AreInOrder given
 
 -- and these are the ones that the filter takes, in order
-abbrev pub AreTold : Filter → Scheme → List Noted → List (List Warning) → Type 0
-AreTold filter scheme records told =
-    (given : List (List Warning)) × AreGiven scheme records given × (told ≡ taken filter given)
-    × AreInOrder told
+abbrev pub AreTakenBy : Filter → Scheme → List Noted → List (List Warning) → Type 0
+AreTakenBy filter scheme records all =
+    (given : List (List Warning)) × AreGiven scheme records given × (all ≡ taken filter given)
+    × AreInOrder all
 
 -- ---- their lines
 
@@ -84,21 +85,27 @@ abbrev pub noted_by : Newest → Noted
 noted_by newest = record { made = newest.made; by = newest.by.now; line = newest.line }
 
 -- a line each, with the notes of the record since which it is stale and of the newest one
-abbrev pub warning_lines : List ℕ → Trigger → Noted → List Noted → List Warning → List ℕ
-warning_lines file trigger newest records [] = []
-warning_lines file trigger newest records (w ∷ warnings) =
-    warning_line file (printed_of trigger newest records w) (note_at records w.stale_since) newest.by
-    ++ warning_lines file trigger newest records warnings
+abbrev pub warning_lines : Form → List ℕ → Trigger → Noted → List Noted → List Warning → List ℕ
+warning_lines form file trigger newest records [] = []
+warning_lines form file trigger newest records (w ∷ warnings) =
+    verdict_as form file (printed_of trigger newest records w) (note_at records w.stale_since) newest.by
+    ++ warning_lines form file trigger newest records warnings
 
-abbrev pub lines_by : List ℕ → Option Trigger → Noted → List Noted → List Warning → List ℕ
-lines_by file None newest records warnings = []
-lines_by file (Some trigger) newest records warnings = warning_lines file trigger newest records warnings
+abbrev pub lines_by : Form → List ℕ → Option Trigger → Noted → List Noted → List Warning → List ℕ
+lines_by form file None newest records warnings = []
+lines_by form file (Some trigger) newest records warnings =
+    warning_lines form file trigger newest records warnings
 
-abbrev pub record_lines : List ℕ → Noted → List Noted → List Warning → List ℕ
-record_lines file newest records warnings =
-    lines_by file (trigger_of records newest.made) newest records warnings
+abbrev pub record_lines : Form → List ℕ → Noted → List Noted → List Warning → List ℕ
+record_lines form file newest records warnings =
+    lines_by form file (trigger_of records newest.made) newest records warnings
 
 -- ---- their counts
+
+-- how many verdicts there are at these records
+abbrev pub verdicts_in : List (List Warning) → ℕ
+verdicts_in [] = 0
+verdicts_in (warnings ∷ given) = verdicts_in given + length warnings
 
 abbrev pub no_counts : VerdictCounts
 no_counts = record { free = 0; reuse = 0; claimed = 0; used = 0 }
@@ -122,7 +129,7 @@ abbrev pub counts_of : Bool → List (List Warning) → VerdictCounts
 counts_of kernel [] = no_counts
 counts_of kernel (warnings ∷ given) = counts_after kernel (counts_of kernel given) warnings
 
--- the last line, where the line of a number may be wrong
-abbrev pub summary_of : Option ℕ → List Noted → List (List Warning) → List ℕ
-summary_of wrong records given =
-    summary_line (length records) wrong (counts_of false given) (counts_of true given)
+-- the last line, where the line of a number may be wrong, and so many findings may be by design
+abbrev pub summary_of : Form → List ℕ → Option ℕ → Option ℕ → List Noted → List (List Warning) → List ℕ
+summary_of form file wrong design records given =
+    summary_as form file (length records) wrong (counts_of false given) (counts_of true given) design

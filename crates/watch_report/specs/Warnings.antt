@@ -145,7 +145,16 @@ abbrev pub wrong_text : Option ℕ → List ℕ
 wrong_text None = []
 wrong_text (Some line) = codes " before line " ++ decimal line
 
-abbrev pub summary_line : ℕ → Option ℕ → VerdictCounts → VerdictCounts → List ℕ
-summary_line records wrong user kernel =
+abbrev pub findings_text : ℕ → List ℕ
+findings_text n =
+    if n == 0 then codes "no finding" else counted_text n (codes " finding") (codes " findings")
+
+-- how many findings are known to be by design, where a list says so of some
+abbrev pub design_text : Option ℕ → List ℕ
+design_text None = []
+design_text (Some n) = codes "; " ++ findings_text n ++ codes " by design"
+
+abbrev pub summary_line : ℕ → Option ℕ → VerdictCounts → VerdictCounts → Option ℕ → List ℕ
+summary_line records wrong user kernel design =
     counted_text records (codes " record") (codes " records") ++ wrong_text wrong ++ codes ", "
-    ++ total_text user kernel ++ codes "\n"
+    ++ total_text user kernel ++ design_text design ++ codes "\n"

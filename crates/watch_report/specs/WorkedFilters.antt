@@ -11,7 +11,8 @@ use Rattle.watch_report.specs.declared.detail.Detail.{Detail}
 use Rattle.watch_report.specs.declared.detail.Detail.TheVariants.{Causes, Counts, Verdicts}
 use Rattle.watch_report.specs.declared.filter.Filter.{Filter}
 use Rattle.watch_report.specs.Filters.{filter_in, kind_of, no_filter, taken}
-use Rattle.watch_report.specs.Reports.{Told, end_text, told_of, told_text}
+use Rattle.watch_report.specs.KnownLists.{none_known}
+use Rattle.watch_report.specs.Reports.{Told, end_text, options_of, told_of, told_text}
 use Rattle.watch_report.specs.VerdictLines.{GivesVerdict}
 use Rattle.watch_report.specs.WorkedReports.{records, use_line, warning_of}
 
@@ -44,7 +45,7 @@ given =
 
 -- of a filter this is told of the records, and at the end
 abbrev pub about : Filter → Detail → Told
-about filter detail = told_of detail filter (codes "a.trace")
+about filter detail = told_of (options_of detail filter) none_known (codes "a.trace")
 
 abbrev pub Tells : Filter → Detail → List ℕ → List ℕ → Type 0
 Tells filter detail text last =

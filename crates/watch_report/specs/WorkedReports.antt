@@ -14,14 +14,15 @@ use Rattle.watch_report.specs.Ending.{Ends}
 use Rattle.watch_report.specs.Filters.{no_filter}
 use Rattle.watch_report.specs.LineFaults.{fault_at}
 use Rattle.watch_report.specs.Orders.{IsInOrder}
-use Rattle.watch_report.specs.Reports.{Told, end_text, told_of, told_text}
+use Rattle.watch_report.specs.KnownLists.{none_known}
+use Rattle.watch_report.specs.Reports.{Told, end_text, options_of, told_of, told_text}
 use Rattle.watch_report.specs.TraceText.{Noted, body_of, records_of}
 use Rattle.watch_report.specs.declared.detail.Detail.{Detail}
 use Rattle.watch_report.specs.declared.detail.Detail.TheVariants.{Causes, Counts, Verdicts}
 
 -- a report of the file `a.trace`, of all verdicts
 abbrev pub about : Detail → Told
-about detail = told_of detail no_filter (codes "a.trace")
+about detail = told_of (options_of detail no_filter) none_known (codes "a.trace")
 
 -- of a text this is written, before a report ends so
 unfoldable pub PrintsBy : Detail → List ℕ → List ℕ → Result Bool ReportFault → Type 0

@@ -85,38 +85,55 @@ counts free reuse claimed used =
 
 abbrev pub no_verdict : Type 0
 no_verdict =
-    summary_line 17 None (counts 0 0 0 0) (counts 0 0 0 0) ≡ codes "17 records, no verdict\n"
+    summary_line 17 None (counts 0 0 0 0) (counts 0 0 0 0) None ≡ codes "17 records, no verdict\n"
 
 abbrev pub one_record : Type 0
 one_record =
-    summary_line 1 None (counts 0 0 0 0) (counts 0 0 0 0) ≡ codes "1 record, no verdict\n"
+    summary_line 1 None (counts 0 0 0 0) (counts 0 0 0 0) None ≡ codes "1 record, no verdict\n"
 
 abbrev pub one_verdict : Type 0
 one_verdict =
-    summary_line 11 None (counts 0 0 0 0) (counts 0 1 0 0)
+    summary_line 11 None (counts 0 0 0 0) (counts 0 1 0 0) None
     ≡ codes "11 records, 1 verdict: kernel-reuse 1\n"
 
 abbrev pub some_verdicts : Type 0
 some_verdicts =
-    summary_line 17 None (counts 3 1 0 0) (counts 0 0 0 0)
+    summary_line 17 None (counts 3 1 0 0) (counts 0 0 0 0) None
     ≡ codes "17 records, 4 verdicts: free 3, reuse 1\n"
 
 abbrev pub verdicts_of_both : Type 0
 verdicts_of_both =
-    summary_line 17 None (counts 0 0 5 0) (counts 0 0 0 10)
+    summary_line 17 None (counts 0 0 5 0) (counts 0 0 0 10) None
     ≡ codes "17 records, 15 verdicts: claim 5, kernel-use 10\n"
 
 abbrev pub all_verdicts : Type 0
 all_verdicts =
-    summary_line 100 None (counts 1 2 3 4) (counts 5 6 7 8)
+    summary_line 100 None (counts 1 2 3 4) (counts 5 6 7 8) None
     ≡ codes "100 records, 36 verdicts: free 1, reuse 2, claim 3, use 4, kernel-free 5, kernel-reuse 6, kernel-claim 7, kernel-use 8\n"
 
 abbrev pub before_a_wrong_line : Type 0
 before_a_wrong_line =
-    summary_line 17 (Some 19) (counts 0 0 0 0) (counts 0 0 0 0)
+    summary_line 17 (Some 19) (counts 0 0 0 0) (counts 0 0 0 0) None
     ≡ codes "17 records before line 19, no verdict\n"
 
 abbrev pub one_before_a_wrong_line : Type 0
 one_before_a_wrong_line =
-    summary_line 1 (Some 1000) (counts 0 0 0 1) (counts 0 0 0 0)
+    summary_line 1 (Some 1000) (counts 0 0 0 1) (counts 0 0 0 0) None
     ≡ codes "1 record before line 1000, 1 verdict: use 1\n"
+
+-- ---- what is known to be by design
+
+abbrev pub none_by_design : Type 0
+none_by_design =
+    summary_line 17 None (counts 0 0 0 0) (counts 0 0 0 0) (Some 0)
+    ≡ codes "17 records, no verdict; no finding by design\n"
+
+abbrev pub one_by_design : Type 0
+one_by_design =
+    summary_line 17 None (counts 3 1 0 0) (counts 0 0 0 0) (Some 1)
+    ≡ codes "17 records, 4 verdicts: free 3, reuse 1; 1 finding by design\n"
+
+abbrev pub many_by_design : Type 0
+many_by_design =
+    summary_line 17 (Some 19) (counts 0 0 0 0) (counts 0 0 0 0) (Some 368)
+    ≡ codes "17 records before line 19, no verdict; 368 findings by design\n"

@@ -11,8 +11,10 @@ ghost use Rattle.watch_report.specs.Reports.{block_lines, blocks_by, record_bloc
 ghost use Rattle.watch_report.specs.TraceText.{Noted, trace_of};
 ghost use Rattle.watch_report.specs.VerdictLines.{noted_by, trigger_of};
 
-use crate::cause_line::{NumberedTally, in_order, push_block, push_total};
+use crate::cause_line::{NumberedTally, in_order};
+use crate::forms::{at_most, push_block_as, push_total_as};
 use crate::newest::Newest;
+use crate::options::Form;
 use crate::past::Past;
 use crate::verdicts::printed;
 use crate::warning::Trigger;
@@ -22,6 +24,8 @@ use watch_engine::Warning;
 
 /// Adds a block for each tally behind the first so many, at the record of its first verdict.
 fn push_blocks(
+    alloc: Global,
+    form: Form,
     text: &mut Vec<u8>,
     file: &[u8],
     trigger: Trigger,
@@ -31,14 +35,16 @@ fn push_blocks(
     tallies: &[Tally],
 ) -> Result<(), AllocError>
     ensures ok { (records : List Noted) → ArePast records past.now → OnOk result
-        (text.new.items ≡ text.old.items ++ block_lines file.now (before + 1) trigger
+        (text.new.items ≡ text.old.items ++ block_lines form file.now (before + 1) trigger
         (noted_by newest.now) records (drop before tallies.now)) }
 {
     let mut place = before;
     while place < tallies.len() {
         let tally = &tallies[place];
         let warning = &tally.example.warning;
-        push_block(
+        push_block_as(
+            alloc,
+            form,
             text,
             file,
             place as u64 + 1,
@@ -55,6 +61,7 @@ fn push_blocks(
 /// The blocks for the tallies behind the first so many.
 fn blocks_by(
     alloc: Global,
+    form: Form,
     file: &[u8],
     trigger: Option<Trigger>,
     newest: &Newest<'_>,
@@ -63,21 +70,25 @@ fn blocks_by(
     tallies: &[Tally],
 ) -> Result<Vec<u8>, AllocError>
     ensures { (records : List Noted) → ArePast records past.now → IfOk result
-        (λ text. text.items ≡ blocks_by file.now (before + 1) trigger (noted_by newest.now) records
+        (λ text. text.items ≡ blocks_by form file.now (before + 1) trigger (noted_by newest.now) records
         (drop before tallies.now)) }
 {
     let mut text = Vec::new(alloc);
     if let Some(trigger) = trigger {
-        push_blocks(&mut text, file, trigger, newest, past, before, tallies)?;
+        push_blocks(
+            alloc, form, &mut text, file, trigger, newest, past, before, tallies,
+        )?;
     }
     Ok(text)
 }
 
-/// Takes the next record, and answers a block for each cause that begins there. There are never too
-/// many records: the watch takes none that the causes do not.
+/// Takes the next record, and answers a block for each cause that begins there and is among the first
+/// `most`. There are never too many records: the watch takes none that the causes do not.
 pub(crate) fn blocks_at(
     causes: &mut Causes,
     alloc: Global,
+    form: Form,
+    most: Option<u64>,
     file: &[u8],
     trigger: Option<Trigger>,
     newest: &Newest<'_>,
@@ -88,29 +99,35 @@ pub(crate) fn blocks_at(
     ensures text { (records : List Noted) (given : List (List WarningOf))
         → trigger ≡ trigger_of records newest.now.made → ArePast records past.now
         → HasSeen (trace_of records) given causes.old → IfOk result (λ text. text.items
-        ≡ record_blocks file.now causes.old.scheme (noted_by newest.now) records warnings.now given) }
+        ≡ record_blocks form most file.now causes.old.scheme (noted_by newest.now) records warnings.now given) }
     ensures seen { (trace : Trace) (given : List (List WarningOf)) → HasSeen trace given causes.old
         → OnOk result (HasSeen (newest.now.made ∷ trace) (warnings.now ∷ given) causes.new) }
 {
     let before = causes.tallies().len();
     match causes.record(newest.made, warnings) {
-        Ok(()) => blocks_by(alloc, file, trigger, newest, past, before, causes.tallies()),
+        Ok(()) => {
+            let told = at_most(most, causes.tallies());
+            blocks_by(alloc, form, file, trigger, newest, past, before, told)
+        }
         Err(_) => Err(AllocError),
     }
 }
 
 /// Adds the lines of causes in this order.
 fn push_each(
+    alloc: Global,
+    form: Form,
     text: &mut Vec<u8>,
     file: &[u8],
     past: &Past,
     ones: &[NumberedTally],
 ) -> Result<(), AllocError>
     ensures ok { (records : List Noted) → ArePast records past.now → OnOk result
-        (text.new.items ≡ text.old.items ++ total_lines file.now records ones.now) }
+        (text.new.items ≡ text.old.items ++ total_lines form file.now records ones.now) }
 {
     for one in ones {
-        push_total(text, file, past.line(one.tally.example.number), one)?;
+        let line = past.line(one.tally.example.number);
+        push_total_as(alloc, form, text, file, line, one)?;
     }
     Ok(())
 }
@@ -118,14 +135,15 @@ fn push_each(
 /// Adds a line for each cause, in the order of the end.
 pub(crate) fn push_totals(
     alloc: Global,
+    form: Form,
     text: &mut Vec<u8>,
     file: &[u8],
     past: &Past,
     tallies: &[Tally],
 ) -> Result<(), AllocError>
     ensures ok { (records : List Noted) → ArePast records past.now → OnOk result
-        (text.new.items ≡ text.old.items ++ total_lines file.now records (ordered tallies.now)) }
+        (text.new.items ≡ text.old.items ++ total_lines form file.now records (ordered tallies.now)) }
 {
     let ones = in_order(alloc, tallies)?;
-    push_each(text, file, past, ones.as_slice())
+    push_each(alloc, form, text, file, past, ones.as_slice())
 }

@@ -1,7 +1,7 @@
 //! The last line, with the counts of the verdicts.
 ghost use Rattle.std.specs.Fmt.{decimal};
 ghost use Rattle.std.specs.Prelude.{◌≡◌, ◌==◌, ◌++◌, ◌&&◌, OnOk, codes, if◌then◌else◌, map, true};
-ghost use Rattle.watch_report.specs.Warnings.{all_counts, comma_text, count_text, verdict_counts_text, summary_line, printed_count, sum_of, total_text, wrong_text};
+ghost use Rattle.watch_report.specs.Warnings.{all_counts, comma_text, count_text, counted_text, design_text, findings_text, verdict_counts_text, summary_line, printed_count, sum_of, total_text, wrong_text};
 
 use crate::push::{push, push_decimal, push_wide_decimal};
 use std::alloc::AllocError;
@@ -147,23 +147,64 @@ fn push_wrong(text: &mut Vec<u8>, wrong: Option<u64>) -> Result<(), AllocError>
     }
 }
 
+/// Adds how many findings there are.
+pub(crate) fn push_findings(text: &mut Vec<u8>, findings: u64) -> Result<(), AllocError>
+    ensures ok { OnOk result (text.new.items ≡ text.old.items ++ findings_text findings) }
+{
+    if findings == 0 {
+        return push(text, b"no finding");
+    }
+    push_decimal(text, findings)?;
+    push(text, word_of(findings == 1, b" finding", b" findings"))
+}
+
+fn push_design_count(text: &mut Vec<u8>, findings: u64) -> Result<(), AllocError>
+    ensures ok { OnOk result (text.new.items ≡ text.old.items
+        ++ codes "; " ++ findings_text findings ++ codes " by design") }
+{
+    push(text, b"; ")?;
+    push_findings(text, findings)?;
+    push(text, b" by design")
+}
+
+/// Adds how many findings are by design, if a list says so of some.
+fn push_design(text: &mut Vec<u8>, design: Option<u64>) -> Result<(), AllocError>
+    ensures ok { OnOk result (text.new.items ≡ text.old.items ++ design_text design) }
+{
+    match design {
+        None => Ok(()),
+        Some(findings) => push_design_count(text, findings),
+    }
+}
+
+/// Adds how many records there are.
+fn push_records(text: &mut Vec<u8>, records: u64) -> Result<(), AllocError>
+    ensures ok { OnOk result (text.new.items ≡ text.old.items
+        ++ counted_text records (codes " record") (codes " records")) }
+{
+    push_decimal(text, records)?;
+    push(text, word_of(records == 1, b" record", b" records"))
+}
+
 /// Adds the last line: how many records there were, before which line of the trace if that is wrong,
-/// and how many verdicts of each kind on translations of users and on the kernel's, global ones.
-/// `AllocError`: there was no room; the part of the line that had room stays.
+/// how many verdicts of each kind on translations of users and on the kernel's, global ones, and how
+/// many findings are by design, where a list says so of some. `AllocError`: there was no room; the part
+/// of the line that had room stays.
 pub fn push_summary(
     text: &mut Vec<u8>,
     records: u64,
     wrong: Option<u64>,
     user: &VerdictCounts,
     kernel: &VerdictCounts,
+    design: Option<u64>,
 ) -> Result<(), AllocError>
     ensures ok { OnOk result (text.new.items ≡ text.old.items
-        ++ summary_line records wrong user.now kernel.now) }
+        ++ summary_line records wrong user.now kernel.now design) }
 {
-    push_decimal(text, records)?;
-    push(text, word_of(records == 1, b" record", b" records"))?;
+    push_records(text, records)?;
     push_wrong(text, wrong)?;
     push(text, b", ")?;
     push_verdict_total(text, user, kernel)?;
+    push_design(text, design)?;
     push(text, b"\n")
 }

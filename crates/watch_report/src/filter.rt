@@ -109,7 +109,7 @@ impl Filter {
 }
 
 /// The verdict on a user's page that has this word.
-fn user_verdict(word: &[u8]) -> Option<Verdict>
+pub(crate) fn user_verdict(word: &[u8]) -> Option<Verdict>
     ensures { result ≡ verdict_in false word.now }
 {
     if word == b"free".as_slice() {

@@ -9,28 +9,28 @@ ghost use Rattle.watch_report.specs.declared.warning.Warning.{Warning as Printed
 ghost use Rattle.watch_report.specs.Filters.{AreTakenAt, has_kind, kind_in, kind_of, kind_text, no_filter, takes};
 ghost use Rattle.watch_report.specs.Orders.{IsInOrder};
 ghost use Rattle.watch_report.specs.TraceText.{Noted, trace_of};
-ghost use Rattle.watch_report.specs.VerdictLines.{AreGiven, AreInOrder, AreTold};
+ghost use Rattle.watch_report.specs.VerdictLines.{AreGiven, AreInOrder, AreTakenBy};
 ghost use Rattle.watch_report.specs.Warnings.{place_text, verdict_of, verdict_part};
 
-/// The filter without a test takes every verdict, so that a report tells of all that are given.
+/// The filter without a test takes every verdict that is given.
 pub fn open_filter_takes_all()
     ensures takes { (w : Warning) → takes no_filter w ≡ true }
     ensures told { (scheme : Scheme) (records : List Noted) (given : List (List Warning))
-        → AreTold no_filter scheme records given
+        → AreTakenBy no_filter scheme records given
         ↔ AreGiven scheme records given × AreInOrder given }
 {}
 
 /// At the newest record a report tells of the verdicts there that its filter takes, all of them and no
-/// others, in order, and at each record before it likewise.
+/// others, in order, and at each record before it likewise, where none of them is known to be by design.
 pub fn told_verdicts_are_those_taken()
     ensures newest { (filter : Filter) (scheme : Scheme) (newest : Noted) (records : List Noted)
         (warnings : List Warning) (told : List (List Warning))
-        → AreTold filter scheme (newest ∷ records) (warnings ∷ told)
+        → AreTakenBy filter scheme (newest ∷ records) (warnings ∷ told)
         → AreTakenAt filter scheme newest.made (trace_of records) warnings × IsInOrder warnings }
     ensures before { (filter : Filter) (scheme : Scheme) (newest : Noted) (records : List Noted)
         (warnings : List Warning) (told : List (List Warning))
-        → AreTold filter scheme (newest ∷ records) (warnings ∷ told)
-        → AreTold filter scheme records told }
+        → AreTakenBy filter scheme (newest ∷ records) (warnings ∷ told)
+        → AreTakenBy filter scheme records told }
 {}
 
 /// The line of a verdict has the word of its kind. Each such word is read as its kind, and no other word

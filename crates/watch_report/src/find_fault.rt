@@ -13,7 +13,7 @@ use crate::word_faults::{fault_at, first_reason, word_fault, wrong_word};
 use pte::Scheme;
 
 /// The first word of a text, and what stands after its space, if there is one.
-fn first_word(text: &[u8]) -> (&[u8], Option<&[u8]>)
+pub(crate) fn first_word(text: &[u8]) -> (&[u8], Option<&[u8]>)
     ensures words { fields_of text.now ≡ result.0.now ∷ words_after result.1 (λ rest. rest.now) }
     ensures length { length result.0.now ≤ length text.now }
     ensures rest { IfSome result.1 (λ rest. length result.0.now + 1 + length rest.now

@@ -78,20 +78,23 @@ const LOG_TIME: &str = "a time of the kernel's log: sed 's/^\\[[^]]*] *//' takes
 
 const ZERO_BYTE: &str = "a byte 0, as of a buffer that was not full: tr -d '\\0' takes it out";
 
-const CARRIAGE_RETURN: &str = "a carriage return: lines end in a line feed alone";
+pub(crate) const CARRIAGE_RETURN: &str = "a carriage return: lines end in a line feed alone";
 
 const TAB: &str = "a tab: one space stands between two fields";
 
-const SPACE: &str = "a space too many: one stands between two fields, and none at the ends";
+pub(crate) const SPACE: &str =
+    "a space too many: one stands between two fields, and none at the ends";
 
 const OTHER_LETTER: &str =
     "no line begins so: a record has one of the letters a c d e f r s u w z, a mark is m TEXT";
+
+pub(crate) const NO_SPACE: &str = "no space before the note";
 
 const TOO_LONG: &str = "too long: a number has 1 to 16 digits";
 
 /// A number as lines write it.
 #[derive(Clone, Copy)]
-struct Word(u64);
+pub(crate) struct Word(pub(crate) u64);
 
 impl fmt::Display for Word {
     ghost use Rattle.std.specs.Prelude.{Some};
@@ -156,7 +159,7 @@ impl fmt::Display for LineReason {
                 Scheme::Sv39 => write!(f, "MODE of satp is {mode}: in sv39 it is 0 or 8"),
                 Scheme::Sv48 => write!(f, "MODE of satp is {mode}: in sv48 it is 0 or 9"),
             },
-            LineReason::NoSpace => f.write_str("no space before the note"),
+            LineReason::NoSpace => f.write_str(NO_SPACE),
         }
     }
 }

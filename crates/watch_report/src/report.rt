@@ -2,17 +2,18 @@
 ghost use Rattle.std.specs.Prelude.{ℕ, List, IfSome, ◌≡◌, Ok, None, false, true};
 ghost use Rattle.watch_report.specs.Ending.{Ends, EndsBy, IsAtLine};
 ghost use Rattle.watch_report.specs.Fields.{fields_of};
+ghost use Rattle.watch_report.specs.KnownLists.{known_in};
 ghost use Rattle.watch_report.specs.LineFaults.{fault_of, header_fault};
 ghost use Rattle.watch_report.specs.Reports.{told_of};
 ghost use Rattle.watch_report.specs.TraceLines.{header_in};
 ghost use Rattle.watch_report.specs.TraceText.{has_no_form, lines_of};
 
-use crate::detail::Detail;
 use crate::fault::ReportFault;
-use crate::filter::Filter;
 use crate::find_fault::{find_header_fault, find_line_fault};
 use crate::header::{Header, read_header};
 use crate::input::read_line;
+use crate::known_list::KnownList;
+use crate::options::Options;
 use crate::reading::Reading;
 use crate::reading_fault::ReadingFault;
 use crate::retry::Retrying;
@@ -70,8 +71,8 @@ pub(crate) fn fault_of_line(
 /// Reports the lines after the header. `line` is room for one of them.
 fn report_lines<R: BufRead, W: Write>(
     alloc: Global,
-    detail: Detail,
-    filter: Filter,
+    options: Options,
+    known: KnownList<'_>,
     file: &[u8],
     header: Header,
     input: &mut R,
@@ -79,20 +80,21 @@ fn report_lines<R: BufRead, W: Write>(
     out: &mut W,
 ) -> Result<bool, ReportFault>
     ensures { (text : List ℕ) × IfSome (R.remaining input.old) (λ left. text ≡ left)
-        × EndsBy (told_of detail filter file.now) (Ok header) (lines_of text) result
+        × EndsBy (told_of options (known_in known.entry) file.now) (Ok header) (lines_of text) result
         (W.contents out.old) (W.contents out.new) }
 {
-    let mut reading = Reading::new(alloc, detail, filter, header);
+    let list = known.file;
+    let mut reading = Reading::new(alloc, options, known.entries, header)?;
     for number in 2..u64::MAX {
         let more = read_line(input, line)?;
         let text = line.as_slice();
         let taken = reading.take_line(file, number, text, out)?;
         if !taken {
-            let finished = reading.finish(file, Some(number), out);
+            let finished = reading.finish(file, list, Some(number), out);
             return Err(fault_of_line(header, number, text, finished));
         }
         if !more {
-            let some = reading.finish(file, None, out)?;
+            let some = reading.finish(file, list, None, out)?;
             return Ok(some);
         }
     }
@@ -102,14 +104,14 @@ fn report_lines<R: BufRead, W: Write>(
 /// Reports a trace, of which no line was read.
 fn report_all<R: BufRead, W: Write>(
     alloc: Global,
-    detail: Detail,
-    filter: Filter,
+    options: Options,
+    known: KnownList<'_>,
     file: &[u8],
     input: &mut R,
     out: &mut W,
 ) -> Result<bool, ReportFault>
     ensures { (text : List ℕ) × IfSome (R.remaining input.old) (λ left. text ≡ left)
-        × Ends (told_of detail filter file.now) text result (W.contents out.old) (W.contents out.new) }
+        × Ends (told_of options (known_in known.entry) file.now) text result (W.contents out.old) (W.contents out.new) }
 {
     let mut line = Vec::new(alloc);
     let more = read_line(input, &mut line)?;
@@ -118,34 +120,38 @@ fn report_all<R: BufRead, W: Write>(
         return Err(first_line_fault(text));
     };
     if !more {
-        let some = Reading::new(alloc, detail, filter, header).finish(file, None, out)?;
+        let list = known.file;
+        let reading = Reading::new(alloc, options, known.entries, header)?;
+        let some = reading.finish(file, list, None, out)?;
         return Ok(some);
     }
-    report_lines(alloc, detail, filter, file, header, input, &mut line, out)
+    report_lines(alloc, options, known, file, header, input, &mut line, out)
 }
 
 /// Reads a trace to its end, from the file of this name. Writes what the detail asks for as soon as a
-/// record is read, and the last lines. Whether there was a verdict.
+/// record is read, and the last lines. Whether a verdict was told.
 ///
 /// Of verdicts that the filter does not take nothing is told, and they count for nothing. So the first
 /// verdict of a finding is the first that the filter takes, and its cause has the word of that one.
+/// Of the verdicts of a finding that is known to be by design nothing is told either, and they count for
+/// nothing: it is counted once, for the first entry of the list that matches its first verdict.
 ///
 /// What was written before a fault stays. At `Line` it is all that of the records before the line, with
 /// the last lines, or nothing if it is the first. At the others it is what is told of some of the
 /// records, from the first on, or of `Output` and `BrokenPipe` a beginning of that or of all.
 pub fn report_trace<R: Read + Drop, W: Write>(
     alloc: Global,
-    detail: Detail,
-    filter: Filter,
+    options: Options,
+    known: KnownList<'_>,
     file: &str,
     input: R,
     out: &mut W,
 ) -> Result<bool, ReportFault>
     ensures { (text : List ℕ) × IfSome (R.remaining input) (λ left. text ≡ left)
-        × Ends (told_of detail filter file.now) text result (W.contents out.old) (W.contents out.new) }
+        × Ends (told_of options (known_in known.entry) file.now) text result (W.contents out.old) (W.contents out.new) }
 {
     let Ok(mut reader) = BufReader::new(alloc, Retrying { inner: input }) else {
         return Err(ReportFault::NoMemory);
     };
-    report_all(alloc, detail, filter, file.as_bytes(), &mut reader, out)
+    report_all(alloc, options, known, file.as_bytes(), &mut reader, out)
 }

@@ -2,7 +2,7 @@
 ghost use Rattle.std.specs.Prelude.{◌≡◌, ◌∷◌, ◌++◌, ℕ, List, [], IfOk, OnOk};
 ghost use Rattle.pte.specs.declared.scheme.Scheme.{Scheme as SchemeOf};
 ghost use Rattle.watch_engine.specs.declared.warning.Warning.{Warning as WarningOf};
-ghost use Rattle.watch_report.specs.declared.detail.Detail.{Detail as DetailOf};
+ghost use Rattle.watch_report.specs.declared.options.Options.{Options as OptionsOf};
 ghost use Rattle.watch_report.specs.Past.{ArePast};
 ghost use Rattle.watch_report.specs.Reports.{told_at, totals_by};
 ghost use Rattle.watch_report.specs.Telling.{IsTelling};
@@ -11,7 +11,9 @@ ghost use Rattle.watch_report.specs.VerdictLines.{noted_by, trigger_of};
 
 use crate::blocks::{blocks_at, push_totals};
 use crate::detail::Detail;
+use crate::forms::{at_most, left_after};
 use crate::newest::Newest;
+use crate::options::Options;
 use crate::past::Past;
 use crate::verdicts::lines_by;
 use crate::warning::Trigger;
@@ -20,24 +22,32 @@ use std::alloc::{AllocError, Global};
 use watch_causes::Causes;
 use watch_engine::Warning;
 
-/// What is told of the records, and the causes where these are told.
+/// How many verdicts are left to tell, or the causes, where these are told.
 #[derive(Drop)]
-pub(crate) enum Telling {
-    Verdicts,
+pub(crate) enum Kept {
+    Verdicts(Option<u64>),
     Causes(Causes),
     Counts,
 }
 
+/// What is told of the records, and what is kept for it.
+#[derive(Drop)]
+pub(crate) struct Telling {
+    options: Options,
+    kept: Kept,
+}
+
 impl Telling {
     /// No record was read.
-    pub(crate) fn new(alloc: Global, detail: Detail, scheme: Scheme) -> Telling
-        ensures { IsTelling detail scheme [] [] result }
+    pub(crate) fn new(alloc: Global, options: Options, scheme: Scheme) -> Telling
+        ensures { IsTelling options scheme [] [] result }
     {
-        match detail {
-            Detail::Verdicts => Telling::Verdicts,
-            Detail::Causes => Telling::Causes(Causes::new(alloc, scheme)),
-            Detail::Counts => Telling::Counts,
-        }
+        let kept = match options.detail {
+            Detail::Verdicts => Kept::Verdicts(options.most),
+            Detail::Causes => Kept::Causes(Causes::new(alloc, scheme)),
+            Detail::Counts => Kept::Counts,
+        };
+        Telling { options, kept }
     }
 
     /// The text at the next record, which has this trigger and these warnings.
@@ -50,22 +60,28 @@ impl Telling {
         past: &Past,
         warnings: &[Warning],
     ) -> Result<Vec<u8>, AllocError>
-        ensures text { (detail : DetailOf) (scheme : SchemeOf) (records : List Noted)
+        ensures text { (options : OptionsOf) (scheme : SchemeOf) (records : List Noted)
             (given : List (List WarningOf)) → trigger ≡ trigger_of records newest.now.made
-            → ArePast records past.now → IsTelling detail scheme records given self.old
-            → IfOk result (λ text. text.items ≡ told_at detail file.now scheme (noted_by newest.now)
+            → ArePast records past.now → IsTelling options scheme records given self.old
+            → IfOk result (λ text. text.items ≡ told_at options file.now scheme (noted_by newest.now)
             records warnings.now given) }
-        ensures telling { (detail : DetailOf) (scheme : SchemeOf) (records : List Noted)
-            (given : List (List WarningOf)) → IsTelling detail scheme records given self.old
-            → OnOk result (IsTelling detail scheme (noted_by newest.now ∷ records)
+        ensures telling { (options : OptionsOf) (scheme : SchemeOf) (records : List Noted)
+            (given : List (List WarningOf)) → IsTelling options scheme records given self.old
+            → OnOk result (IsTelling options scheme (noted_by newest.now ∷ records)
             (warnings.now ∷ given) self.new) }
     {
-        match self {
-            Telling::Verdicts => lines_by(alloc, file, trigger, newest, past, warnings),
-            Telling::Causes(causes) => {
-                blocks_at(causes, alloc, file, trigger, newest, past, warnings)
+        let form = self.options.form;
+        let most = self.options.most;
+        match &mut self.kept {
+            Kept::Verdicts(left) => {
+                let told = at_most(*left, warnings);
+                *left = left_after(*left, warnings.len());
+                lines_by(alloc, form, file, trigger, newest, past, told)
             }
-            Telling::Counts => Ok(Vec::new(alloc)),
+            Kept::Causes(causes) => blocks_at(
+                causes, alloc, form, most, file, trigger, newest, past, warnings,
+            ),
+            Kept::Counts => Ok(Vec::new(alloc)),
         }
     }
 
@@ -77,14 +93,17 @@ impl Telling {
         file: &[u8],
         past: &Past,
     ) -> Result<(), AllocError>
-        ensures { (detail : DetailOf) (scheme : SchemeOf) (records : List Noted)
+        ensures { (options : OptionsOf) (scheme : SchemeOf) (records : List Noted)
             (given : List (List WarningOf)) → ArePast records past.now
-            → IsTelling detail scheme records given self.now → OnOk result (text.new.items
-            ≡ text.old.items ++ totals_by detail file.now scheme records given) }
+            → IsTelling options scheme records given self.now → OnOk result (text.new.items
+            ≡ text.old.items ++ totals_by options file.now scheme records given) }
     {
-        match self {
-            Telling::Causes(causes) => push_totals(alloc, text, file, past, causes.tallies()),
-            Telling::Verdicts | Telling::Counts => Ok(()),
+        match &self.kept {
+            Kept::Causes(causes) => {
+                let told = at_most(self.options.most, causes.tallies());
+                push_totals(alloc, self.options.form, text, file, past, told)
+            }
+            Kept::Verdicts(_) | Kept::Counts => Ok(()),
         }
     }
 }

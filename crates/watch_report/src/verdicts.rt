@@ -4,9 +4,11 @@ ghost use Rattle.watch_report.specs.Past.{ArePast};
 ghost use Rattle.watch_report.specs.TraceText.{Noted};
 ghost use Rattle.watch_report.specs.VerdictLines.{lines_by, noted_by, printed_of, warning_lines};
 
+use crate::forms::push_verdict_as;
 use crate::newest::Newest;
+use crate::options::Form;
 use crate::past::Past;
-use crate::warning::{Trigger, push_warning};
+use crate::warning::Trigger;
 use std::alloc::{AllocError, Global};
 use watch_engine::Warning;
 
@@ -32,6 +34,8 @@ pub(crate) fn printed(
 
 /// Adds the lines of warnings.
 fn push_warnings(
+    alloc: Global,
+    form: Form,
     text: &mut Vec<u8>,
     file: &[u8],
     trigger: Trigger,
@@ -41,12 +45,12 @@ fn push_warnings(
 ) -> Result<(), AllocError>
     ensures ok { (records : List Noted) → ArePast records past.now → OnOk result
         (text.new.items ≡ text.old.items
-        ++ warning_lines file.now trigger (noted_by newest.now) records warnings.now) }
+        ++ warning_lines form file.now trigger (noted_by newest.now) records warnings.now) }
 {
     for warning in warnings {
         let stale_by = past.note(warning.stale_since);
         let printed = printed(trigger, newest, past, warning);
-        push_warning(text, file, &printed, stale_by, newest.by)?;
+        push_verdict_as(alloc, form, text, file, &printed, stale_by, newest.by)?;
     }
     Ok(())
 }
@@ -54,6 +58,7 @@ fn push_warnings(
 /// The lines of the warnings at the newest record, after others.
 pub(crate) fn lines_by(
     alloc: Global,
+    form: Form,
     file: &[u8],
     trigger: Option<Trigger>,
     newest: &Newest<'_>,
@@ -62,11 +67,13 @@ pub(crate) fn lines_by(
 ) -> Result<Vec<u8>, AllocError>
     ensures { (records : List Noted) → ArePast records past.now → IfOk result
         (λ text. text.items
-        ≡ lines_by file.now trigger (noted_by newest.now) records warnings.now) }
+        ≡ lines_by form file.now trigger (noted_by newest.now) records warnings.now) }
 {
     let mut text = Vec::new(alloc);
     if let Some(trigger) = trigger {
-        push_warnings(&mut text, file, trigger, newest, past, warnings)?;
+        push_warnings(
+            alloc, form, &mut text, file, trigger, newest, past, warnings,
+        )?;
     }
     Ok(text)
 }

@@ -83,7 +83,11 @@ fn push_letter(text: &mut Vec<u8>, is_set: bool, letter: &[u8]) -> Result<(), Al
 }
 
 /// Adds the letters of `rwxug` that are set, and `-` for each other: `g` for what is global.
-fn push_letters(text: &mut Vec<u8>, flags: PteFlags, global: bool) -> Result<(), AllocError>
+pub(crate) fn push_letters(
+    text: &mut Vec<u8>,
+    flags: PteFlags,
+    global: bool,
+) -> Result<(), AllocError>
     ensures ok { OnOk result (text.new.items ≡ text.old.items ++ letters_text global flags.0) }
 {
     push_letter(text, flags.may_read(), b"r")?;

@@ -197,7 +197,7 @@ fn unless(test: bool, reason: LineReason) -> Option<LineReason>
     if test { None } else { Some(reason) }
 }
 
-fn is_printable(byte: u8) -> bool
+pub(crate) fn is_printable(byte: u8) -> bool
     ensures { result ≡ is_printable byte }
 {
     b' ' < byte && byte < 0x7F

@@ -105,4 +105,7 @@ pub fn worked_summaries()
     ensures all_verdicts { warnings.all_verdicts }
     ensures before_a_wrong_line { warnings.before_a_wrong_line }
     ensures one_before_a_wrong_line { warnings.one_before_a_wrong_line }
+    ensures none_by_design { warnings.none_by_design }
+    ensures one_by_design { warnings.one_by_design }
+    ensures many_by_design { warnings.many_by_design }
 {}
