@@ -7,7 +7,7 @@ a case, a case without an answer, and a line `---` of another form are refused. 
 """
 import os, re, subprocess, sys, tempfile
 
-NAMES = ("FILE", "-x", "--")
+NAMES = ("FILE", "-x", "--")  # of the first file
 ANSWER = re.compile(r"svsim(.*?): (\d+)(?: (.*))?")
 
 
@@ -17,13 +17,15 @@ def read(path):
 
 
 def cases(path, text):
-    """The title of each case, its file, and its answers: words, status, line on standard error, and standard output."""
+    """The title of each case, its files by their names, and its answers: words, status, line on standard error, and standard output."""
     _, *found = re.split(r"(?m)^=== ", text)
     if not found:
         sys.exit(f"{path}: no case")
     for case in found:
         title, _, body = case.partition("\n")
         file, *answers = re.split(r"(?m)^--- ", body)
+        file, plus, known = file.partition("\n+++\n")
+        files = {name: file for name in NAMES} | ({"LIST": known} if plus else {})
         if not answers:
             sys.exit(f"{path}: {title}: no answer")
         for answer in answers:
@@ -31,15 +33,15 @@ def cases(path, text):
             parts = ANSWER.fullmatch(line)
             if not parts:
                 sys.exit(f"{path}: {title}: --- {line}")
-            yield title, file, parts[1], (int(parts[2]), parts[3] or "", printed)
+            yield title, files, parts[1], (int(parts[2]), parts[3] or "", printed)
 
 
-def answer(program, file, words):
-    """What the program answers to the words, in a folder with the file under each of its names."""
+def answer(program, files, words):
+    """What the program answers to the words, in a folder with the files under their names."""
     with tempfile.TemporaryDirectory() as folder:
-        for name in NAMES:
+        for name, text in files.items():
             with open(os.path.join(folder, name), "w", newline="", encoding="utf-8") as copy:
-                copy.write(file)
+                copy.write(text)
         done = subprocess.run([program, *words.split(" ")[1:]], cwd=folder, stdin=subprocess.DEVNULL, capture_output=True)
     return done.returncode, done.stderr.decode("utf-8", "replace").rstrip("\n"), done.stdout.decode("utf-8", "replace")
 
@@ -47,8 +49,8 @@ def answer(program, file, words):
 def main(program, paths):
     passed = failed = 0
     for path in paths:
-        for title, file, words, wanted in cases(path, read(path)):
-            got = answer(program, file, words)
+        for title, files, words, wanted in cases(path, read(path)):
+            got = answer(program, files, words)
             passed, failed = passed + (got == wanted), failed + (got != wanted)
             if got != wanted:
                 print(f"FAILED {path}: {title}: svsim{words}: {got[0]} {got[1]}\n{got[2]}", end="")

@@ -74,12 +74,12 @@ def command(name, argument, line):
 
 
 def synopsis(commands):
-    """The calls: the common one, and one for each command that takes one of several options."""
+    """The calls: the common one, and one for each command that takes options."""
     yield ".SH SYNOPSIS\n.B svsim\n.I COMMAND FILE"
     for name, argument, _ in commands:
         words = [roff(option) for option, _ in options(said(name))]
         if words:
-            yield f".br\n.B svsim {roff(name)}\n.RB [ {' | '.join(words)} ]\n.I {argument}"
+            yield f".br\n.B svsim {roff(name)}\n.RI [ OPTION ..]\n.I {argument}"
 
 
 def statuses():

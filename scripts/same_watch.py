@@ -2,21 +2,33 @@
 """Compares the two programs that judge traces: same_watch.py SVSIM SVSIM_WATCH
 
 On each trace of examples/ and of the lists of cases `svsim watch` and `svsim_watch` write the same, and end with the same status:
-without an option, with `--all`, with `--quiet`, and with tests of the verdicts. So do `svsim explain` and `svsim_watch --explain` on the
-first line, and on the lines of the first and of the last verdict. The last line is `N passed, M failed`.
+without an option, with each one, and with lists of what is known, right and wrong. So do `svsim explain` and `svsim_watch --explain` on
+the first line, and on the lines of the first and of the last verdict. The last line is `N passed, M failed`.
 """
 import glob, os, re, subprocess, sys, tempfile
 from cases import cases, read
 
 TOP = os.path.dirname(os.path.dirname(os.path.abspath(__file__)))
-OPTIONS = ([], ["--all"], ["--quiet"], ["--hart", "1"], ["--page", "1000"], ["--all", "--kind", "kernel-free", "--hart", "1"])
+OPTIONS = (
+    "", "--all", "--quiet", "--hart 1", "--page 1000", "--all --kind kernel-free --hart 1",
+    "--json", "--all --json", "--quiet --json", "--max 0", "--max 1", "--all --max 1", "--quiet --max 1", "--json --max 1",
+    "--known SOME", "--all --known SOME", "--quiet --known SOME", "--known EACH", "--all --json --known EACH --max 2", "--known NONE",
+    "--known WRONG", "--quiet --json --known WRONG",
+)
+# Lists of what is known.
+KNOWN = {
+    "SOME": "# by design\nuser free - 1000 2000\nkernel - other-hart\n",
+    "EACH": "user - -\nkernel - -\n",
+    "NONE": "\n",
+    "WRONG": "user - -\nuser free\nanybody\n",
+}
 
 
 def traces():
     """The texts of all traces, each once."""
     found = [read(path) for path in sorted(glob.glob(f"{TOP}/examples/**/*.trace", recursive=True))]
     for path in sorted(glob.glob(f"{TOP}/examples/cases/lists/*.txt")):
-        found += [text for _, text, words, _ in cases(path, read(path)) if re.fullmatch(r" watch( --all| --quiet)? FILE", words)]
+        found += [files["FILE"] for _, files, words, _ in cases(path, read(path)) if re.fullmatch(r" watch( --all| --quiet)? FILE", words)]
     return list(dict.fromkeys(found))
 
 
@@ -33,7 +45,7 @@ def lines_of(report):
 
 def pairs_of(svsim, svsim_watch, folder):
     """The words for `svsim_watch`, what `svsim` answers to the same, and what it answers."""
-    for words in OPTIONS:
+    for words in map(str.split, OPTIONS):
         yield words, answer([svsim, "watch", *words, "FILE"], folder), answer([svsim_watch, *words, "FILE"], folder)
     for line in lines_of(answer([svsim, "watch", "--all", "FILE"], folder)[1]):
         for tests in ([], ["--hart", "1"], ["--page", "1000", "--kind", "claim"]):
@@ -45,8 +57,9 @@ def main(svsim, svsim_watch):
     passed = failed = 0
     for text in traces():
         with tempfile.TemporaryDirectory() as folder:
-            with open(os.path.join(folder, "FILE"), "w", newline="", encoding="utf-8") as file:
-                file.write(text)
+            for name, written in {"FILE": text, **KNOWN}.items():
+                with open(os.path.join(folder, name), "w", newline="", encoding="utf-8") as file:
+                    file.write(written)
             pairs = list(pairs_of(svsim, svsim_watch, folder))
         for words, wanted, got in pairs:
             passed, failed = passed + (got == wanted), failed + (got != wanted)

@@ -17,9 +17,14 @@ wait_for() {
     wait "$1"
 }
 
-# Copies what a command reads: all of a trace, else no more than it takes to see that a file is too large.
+# Copies of a file no more than it takes to see that it is too large.
+front_of() {
+    head -c $((most_bytes + 1)) <"$1"
+}
+
+# Copies what a command reads: all of a trace.
 copy_of() {
-    if ! is_of_trace; then head -c $((most_bytes + 1)) <"$1"; elif [ "$1" = - ]; then cat; else cat <"$1"; fi
+    if ! is_of_trace; then front_of "$1"; elif [ "$1" = - ]; then cat; else cat <"$1"; fi
 }
 
 # The folder that holds the answers on a file.
@@ -98,7 +103,10 @@ build_watch() {
 # Builds a crate's program without a proof, and runs it on the cases: CRATE and what that costs.
 try() {
     echo "svsim: building without a proof: $2; svsim prove proves and builds the program once" >&2
-    (cd "$top/crates/$1" && exec setsid rt try --steps 1 --cases "$cases") >"$own/out" 2>"$own/err" &
+    crate=$1
+    set --
+    if has_list; then set -- --data "list=$own/list"; fi
+    (cd "$top/crates/$crate" && exec setsid rt try --steps 1 "$@" --cases "$cases") >"$own/out" 2>"$own/err" &
     child=$!
     wait_for $child || true
     child=''
@@ -111,13 +119,35 @@ forget_oldest() {
     fi
 }
 
-# The build read a copy of the file under the name `case`. What it printed is given the name that the caller gave, as the program prints
-# it: before the line's number in a report of watch and in the comments of explain as it is, at the head of a line of check with `?` for each control character and each
-# that sets the direction (crates/checks/src/shown.rt), and in a picture its last component, of 60 characters at most, with `?` for what
-# is not ASCII (crates/draw/src/heading.rt).
+# A text as the inside of a string of JSON.
+in_json() {
+    printf %s "$1" | od -An -v -tu1 | tr -s ' ' '\n' | LC_ALL=C awk '
+        $1 == "" { next }
+        $1 == 34 || $1 == 92 { printf "\\%c", $1; next }
+        $1 >= 32 { printf "%c", $1; next }
+        { short = substr("btn-fr", $1 - 7, 1) }
+        $1 < 8 || $1 > 13 || $1 == 11 { printf "\\u%04x", $1; next }
+        { printf "\\%s", short }'
+}
+
+# The build read copies of the files under the names `case` and `list`. What it printed is given the names that the caller gave, as the
+# program prints them: before the line's number in a report of watch and in the comments of explain as it is, in an object of JSON behind
+# its type, at the head of a line of check with `?` for each control character and each that sets the direction
+# (crates/checks/src/shown.rt), and in a picture its last component, of 60 characters at most, with `?` for what is not ASCII
+# (crates/draw/src/heading.rt).
 named() {
     case $1 in
-    watch) NAME=$file awk '{ if ($0 ~ /^case:[0-9]+: /) print ENVIRON["NAME"] substr($0, 5); else print }' ;;
+    watch)
+        NAME=$file LIST=$known JSON_NAME=$(in_json "$file") JSON_LIST=$(in_json "$known") awk '
+            /^case:[0-9]+: / { print ENVIRON["NAME"] substr($0, 5); next }
+            /^list:[0-9]+: / { print ENVIRON["LIST"] substr($0, 5); next }
+            /^\{"type":"[a-z]+","file":"(case|list)",/ {
+                at = index($0, ",") + 8
+                name = substr($0, at + 1, 4) == "case" ? "JSON_NAME" : "JSON_LIST"
+                print substr($0, 1, at) ENVIRON[name] substr($0, at + 5)
+                next
+            }
+            { print }' ;;
     explain) NAME=$file awk '{ if ($0 ~ /^# case:[0-9]+: /) print "# " ENVIRON["NAME"] substr($0, 7); else print }' ;;
     check)
         NAME=$(printf %s "$file" | tr '\000-\037\177' '?' | LC_ALL=C sed 's/\xc2[\x80-\x9f]/?/g; s/\xd8\x9c/?/g
@@ -133,10 +163,14 @@ named() {
     esac
 }
 
-# The same of the line on standard error, which begins with the file's name where it is of a line of a trace.
+# The same of the line on standard error, which begins with the file's name where it is of a line of a trace or of a list.
 named_fault() {
     case $1 in
-    watch | explain) NAME=$file awk '{ if (index($0, "case:") == 1) print ENVIRON["NAME"] substr($0, 5); else print }' ;;
+    watch | explain)
+        NAME=$file LIST=$known awk '
+            index($0, "case:") == 1 { print ENVIRON["NAME"] substr($0, 5); next }
+            index($0, "list:") == 1 { print ENVIRON["LIST"] substr($0, 5); next }
+            { print }' ;;
     *) cat ;;
     esac
 }
@@ -168,10 +202,17 @@ begin() {
     if make_kept; then store=$kept/answers; else store=$own/answers; fi
 }
 
+# Copies a file under a name of this call's folder: FILE NAME HOW
+copy() {
+    if ! { "$3" "$1" >"$own/$2"; } 2>/dev/null; then refuse "cannot read $1" "is it there, and yours to read?"; fi
+}
+
 answer() {
     begin
-    asked=$command$option$line${tests:+with$(printf %s "$tests" | sha256sum | cut -c1-16)}
-    if ! { copy_of "$file" >"$own/given"; } 2>/dev/null; then refuse "cannot read $file" "is it there, and yours to read?"; fi
+    : >"$own/list"
+    if has_list; then copy "$known" list front_of; fi
+    copy "$file" given copy_of
+    asked=$command$option$line${tests:+with$({ printf '%s\n\n' "$tests" && sha256sum <"$own/list"; } | sha256sum | cut -c1-16)}
     if ! is_of_trace && [ "$(wc -c <"$own/given")" -gt $most_bytes ]; then
         refuse 'file too large' "a file has at most $most_bytes bytes"
     fi

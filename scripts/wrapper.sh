@@ -15,7 +15,7 @@ passed=0
 failed=0
 
 # The part of the toolchain: its version, builds of a program that prints `proved`, and a build that answers each case by what stands
-# in `lines`, `trouble` and `status`, keeps the file that it was given, and counts how often it was called. The smaller program's status
+# in `lines`, `trouble` and `status`, keeps the file and the list that it was given, and counts how often it was called. The smaller program's status
 # is that of `watch_status`, or of `status_of_CASE`.
 mkdir -p "$own/bin" "$own/tree/crates/svsim" "$own/tree/crates/svsim_watch" "$own/tree/examples/watch" "$own/tree/scripts"
 cat >"$own/bin/rt" <<'RT'
@@ -25,7 +25,10 @@ case $1 in
 version) cat "$play/version" ;;
 run) mkdir -p out && printf '#!/bin/sh\necho proved\n' >out/svsim && chmod +x out/svsim ;;
 try)
-    for word in "$@"; do cases=$word; done
+    for word in "$@"; do
+        case $word in list=*) cp "${word#list=}" "$play/list" ;; esac
+        cases=$word
+    done
     echo "${PWD##*/}" >>"$play/builds"
     sleep "$(cat "$play/seconds")"
     for args in "$cases"/*.args; do
@@ -91,7 +94,7 @@ says 'three words' 2 "run $own/file.toml more" 'svsim: usage: svsim COMMAND FILE
 says 'an option' 2 "run --json $own/file.toml" 'svsim: usage: svsim COMMAND FILE'
 says 'two dashes alone' 2 "run --" 'svsim: usage: svsim COMMAND FILE'
 refuses() { says "$1" 2 "$1" 'svsim: usage: svsim COMMAND FILE'; }
-for word in --all --quiet; do
+for word in --all --quiet --json; do
     for command in run live walk stale show draw check; do refuses "$command $word file.toml"; done
     refuses "watch $word"
     refuses "$word file.trace"
@@ -108,7 +111,7 @@ for word in --all --quiet; do
     refuses "$word tour"
     refuses "watch $word --help"
 done
-for word in '--hart 1' '--page 1' '--kind use'; do
+for word in '--hart 1' '--page 1' '--kind use' '--max 1'; do
     for command in run live walk stale show draw check; do
         refuses "$command $word file.toml"
         refuses "$command ${word% *}=${word#* } file.toml"
@@ -130,14 +133,30 @@ for word in '--hart 1' '--page 1' '--kind use'; do
     refuses "$word tour"
 done
 for word in 'hart 64' 'hart a' 'hart -1' 'hart 00000000000000001' 'hart 1e' 'page 0x1000' 'page g' 'page 10000000000000000' 'kind Claim' \
-    'kind frees' 'kind kernel' 'kind kernel-kernel-use' 'kind claim,use'; do
+    'kind frees' 'kind kernel' 'kind kernel-kernel-use' 'kind claim,use' 'max a' 'max +1' 'max 1e' 'max 0x1' 'max 1.5' \
+    'max 18446744073709551616' 'max 000018446744073709551616' 'max 100000000000000000000'; do
     refuses "watch --$word file.trace"
     refuses "watch --${word% *}=${word#* } file.trace"
 done
-for word in --all --quiet; do
+for word in --all --quiet --json '--max 1' '--known l'; do
     refuses "explain $word file.trace 7"
     refuses "explain file.trace 7 $word"
 done
+refuses 'watch --max=-1 file.trace'
+for command in run live walk stale show draw check; do
+    refuses "$command --known l file.toml"
+    refuses "$command --known=l file.toml"
+done
+refuses 'watch --known l'
+refuses '--known l file.trace'
+refuses 'watch file.trace --known'
+refuses 'watch --known file.trace'
+refuses 'watch --known --all file.trace'
+refuses 'watch --known -- file.trace'
+refuses 'watch --known a --known b file.trace'
+refuses 'watch --known=a --known=a file.trace'
+refuses 'watch --know l file.trace'
+refuses 'watch file.trace -- --known l'
 for word in '--hart 1' '--page 1' '--kind use'; do
     refuses "explain $word file.trace"
     refuses "explain file.trace 7 ${word% *}"
@@ -163,6 +182,11 @@ says 'a folder' 2 "watch $own" "svsim: cannot read $own"
 says 'a folder to explain' 2 "explain $own 7" "svsim: cannot read $own"
 says 'no file to explain' 2 "explain $own/none 7" "svsim: cannot read $own/none"
 says 'a dash for a scenario' 2 'run -' 'svsim: cannot read -'
+says 'no list' 2 "watch --known $own/none $own/file.toml" "svsim: cannot read $own/none"
+says 'a folder for a list' 2 "watch --known=$own -" "svsim: cannot read $own"
+says 'a list without a name' 2 "watch --known= $own/file.toml" 'svsim: cannot read '
+says 'a dash for a list' 2 'watch --known - -' 'svsim: cannot read -'
+says 'neither list nor file' 2 "watch $own/none --known $own/no-list" "svsim: cannot read $own/no-list"
 for word in help -h --help; do
     says "$word" 0 "$word" ''
     judge "$word names each command" 9 "$(grep -c -E '^  (run|live|walk|stale|show|draw|check|watch|explain) [A-Z ]+ [a-z]' "$own/out")"
@@ -176,7 +200,7 @@ for word in run live walk stale show draw check watch explain; do
     judge "$word --help" "$(cat "$own/help")" "$(cat "$own/out")"
 done
 says 'help of watch' 0 'help watch' ''
-judge 'help of watch has its options' '--all --quiet --hart --page --kind ' "$(sed -n 's/^  \(--[a-z]*\) .*/\1/p' "$own/out" | tr '\n' ' ')"
+judge 'help of watch has its options' '--all --quiet --json --max --known --hart --page --kind ' "$(sed -n 's/^  \(--[a-z]*\) .*/\1/p' "$own/out" | tr '\n' ' ')"
 says 'help of explain' 0 'help explain' ''
 judge 'help of explain has its options' '--hart --page --kind ' "$(sed -n 's/^  \(--[a-z]*\) .*/\1/p' "$own/out" | tr '\n' ' ')"
 says 'help of no command' 2 'help rnu' 'svsim: usage: svsim COMMAND FILE'
@@ -199,6 +223,8 @@ helps 'explain without a line' "explain $own/file.toml" 'svsim help explain tell
 helps 'both options' "watch --all --quiet $own/file.toml" 'svsim help watch tells what it takes'
 helps 'a slip behind an option' "--all wach $own/file.toml" 'perhaps svsim watch; svsim help lists the commands'
 helps 'a slip behind an option with a value' "--hart 1 wach $own/file.toml" 'perhaps svsim watch; svsim help lists the commands'
+helps 'a slip behind a list' "--json --max 2 --known l wach $own/file.toml" 'perhaps svsim watch; svsim help lists the commands'
+helps 'no list' "watch --known $own/none $own/file.toml" 'no such file'
 helps 'an option without its value' "watch $own/file.toml --hart" 'svsim help watch tells what it takes'
 helps 'an option of watch for run' "run --all $own/file.toml" 'svsim help lists the commands'
 helps 'an option alone' --quiet 'svsim help lists the commands'
@@ -405,7 +431,39 @@ judge 'and another each other test' $((before + 5)) "$(builds)"
 watches 'watch file.trace' ''
 watches 'watch --all file.trace' ' --all'
 judge 'the answers without one are kept beside' $((before + 5)) "$(builds)"
-before=$((before + 4))
+watches 'watch --json file.trace' ' --json'
+watches '--json watch file.trace' ' --json'
+watches 'watch --quiet file.trace --json' ' --quiet --json'
+watches 'watch --max 3 file.trace' ' --max 3'
+watches 'watch file.trace --max=003' ' --max 3'
+watches 'watch --max 0 --all file.trace' ' --all --max 0'
+watches "watch --max $(printf '%0300d' 0) --all file.trace" ' --all --max 0'
+watches 'watch --max 18446744073709551615 file.trace' ' --max 18446744073709551615'
+watches 'watch --hart 1 --max 3 file.trace --json' ' --max 3 --json --hart 1'
+judge 'a build answers how it is told' $((before + 11)) "$(builds)"
+before=$((before + 10))
+echo 'a list' >"$own/l"
+cp "$own/l" "$own/--all=1"
+watches 'watch --known l file.trace' ' --known list'
+judge 'a list is handed over' 'a list' "$(cat "$own/list")"
+watches '--known=l watch file.trace' ' --known list'
+watches 'watch --known=--all=1 file.trace' ' --known list'
+judge 'a list of the same text is answered' $((before + 2)) "$(builds)"
+echo 'another list' >"$own/l"
+watches 'watch --known l file.trace' ' --known list'
+judge 'another list is handed over' 'another list' "$(cat "$own/list")"
+watches 'watch --quiet --known l file.trace --kind=use' ' --quiet --known list --kind use'
+judge 'and is answered by a build' $((before + 4)) "$(builds)"
+head -c 1048577 /dev/zero >"$own/l"
+watches 'watch --known l file.trace' ' --known list'
+judge 'a list that is too long is handed over' 1048577 "$(wc -c <"$own/list" | tr -d ' ')"
+echo 6 >"$own/watch_status"
+echo 'a list that the smaller program can not hold' >"$own/l"
+watches 'watch --known l file.trace' ' --known list'
+judge 'the whole program reads it' 'svsim_watch svsim' "$(tail -n 2 "$own/builds" | tr '\n' ' ' | sed 's/ $//')"
+judge 'the list itself' 'a list that the smaller program can not hold' "$(cat "$own/list")"
+echo 0 >"$own/watch_status"
+before=$((before + 6))
 echo 'a trace that is handed over' >"$own/file.trace"
 for option in '' --all --quiet; do
     judge "a trace from standard input ${option:-without an option}" "line of watch${option:+ $option}" \
@@ -467,6 +525,8 @@ echo 0 >"$own/watch_status"
 names() { judge "the name in a report: $1" "$3" "$(cd "$own" && "$svsim" watch $2 2>/dev/null | sed '$d')"; }
 printf '%s\n' 'case:15: use hart 1' '  cause 1: user pages' '  case:15: x' 'x case:15: y' 'case:15:3: y' 'case:: y' 'case:15 y' \
     'casement:15: y' 'case:7: claim case:7: case:8: y' '26 records, 3 verdicts: case:1: y' >"$own/lines"
+printf '%s\n' 'list:3: by design: 1 finding' 'x list:3: y' 'list:3:1: y' '{"type":"verdict","file":"case","line":15,"by":"\"file\":\"case\""}' \
+    '{"type":"known","file":"list","line":3}' '{"type":"verdict","line":"case"}' '{"type":"total","file":"cases"}' >"$own/lines_with_list"
 report() { sed "s|^case:15: use|$1:15: use|; s|^case:7: claim|$1:7: claim|" "$own/lines"; }
 echo 'a trace with a report' >"$own/file.trace"
 names 'as it was called' file.trace "$(report file.trace)"
@@ -477,6 +537,21 @@ judge 'the name in a report: standard input' "$(report -)" "$("$svsim" watch - <
 cp "$own/file.trace" "$own/a \&1 \\n é"
 judge 'the name in a report: letters of awk and sed' "$own/a \&1 \\n é:15: use hart 1" \
     "$("$svsim" watch "$own/a \&1 \\n é" 2>/dev/null | head -n 1)"
+cp "$own/lines" "$own/lines_without"
+cp "$own/lines_with_list" "$own/lines"
+echo 'a list with a name' >"$own/a \"l\\"
+cp "$own/file.trace" "$own/t.trace"
+echo more >>"$own/t.trace"
+sed 's|^list:3: by|a "l\\:3: by|; s|^\(.*"file":\)"case",|\1"t.trace",|; s|"file":"list",|"file":"a \\"l\\\\",|' "$own/lines" >"$own/lines_named"
+judge 'the name of a list' "$(cat "$own/lines_named")" "$(cd "$own" && "$svsim" watch --known 'a "l\' t.trace 2>/dev/null | sed '$d')"
+cp "$own/t.trace" "$own/t	\"é\\.trace"
+judge 'a name in JSON' '{"type":"verdict","file":"t\t\"é\\.trace","line":15,"by":"\"file\":\"case\""}' \
+    "$(cd "$own" && "$svsim" watch --known 'a "l\' 't	"é\.trace' 2>/dev/null | sed -n 4p)"
+echo 'list:2: no owner' >"$own/trouble"
+echo 'a wrong list' >"$own/l"
+judge 'a wrong line of a list, with its name' "$own/l:2: no owner" "$("$svsim" watch --known "$own/l" "$own/t.trace" 2>&1 >/dev/null | tail -n 1)"
+: >"$own/trouble"
+cp "$own/lines_without" "$own/lines"
 { sleep 0.2; "$svsim" watch "$own/file.trace" 2>"$own/unread"; echo "$?" >"$own/unread_status"; } | true
 judge 'a report that nobody reads: its status' "$(cat "$own/watch_status")" "$(cat "$own/unread_status")"
 judge 'a report that nobody reads: nothing is said' '' "$(grep -v '^svsim: ' "$own/unread")"
@@ -552,6 +627,7 @@ judge 'a release answers' "released watch -" "$("$svsim" watch -)"
 judge 'a release passes an option on' "released --all watch -" "$("$svsim" --all watch -)"
 judge 'and one with a value' "released watch --hart 1 --kind=use -" "$("$svsim" watch --hart 1 --kind=use -)"
 judge 'and two dashes' "released watch --quiet -- -" "$("$svsim" watch --quiet -- -)"
+judge 'and a list that is not there' "released watch --json --max 03 --known $own/none -" "$("$svsim" watch --json --max 03 --known "$own/none" -)"
 judge 'a release explains' "released explain --hart 1 - 7" "$("$svsim" explain --hart 1 - 7)"
 says 'explain without a line, of a release' 2 'explain -' 'svsim: usage: svsim COMMAND FILE'
 says 'both options, of a release' 2 'watch --all --quiet -' 'svsim: usage: svsim COMMAND FILE'

@@ -2,8 +2,8 @@
 _svsim() {
     local word=${COMP_WORDS[COMP_CWORD]} program=${COMP_WORDS[0]/#\~/$HOME} command='' option='' kinds='' each
     for each in "${COMP_WORDS[@]:1:COMP_CWORD-1}"; do
-        case $option:$each in --hart:= | --page:= | --kind:=) continue ;; esac
-        case $option:$each in --hart:* | --page:* | --kind:*) option='' && continue ;; esac
+        case $option:$each in --hart:= | --page:= | --kind:= | --max:= | --known:=) continue ;; esac
+        case $option:$each in --hart:* | --page:* | --kind:* | --max:* | --known:*) option='' && continue ;; esac
         case $each in -?*) option=$each ;; *) command=${command:-$each} option='' ;; esac
     done
     if [ "$option" = --kind ]; then
@@ -11,7 +11,10 @@ _svsim() {
             kinds="$kinds $each kernel-$each"
         done
         mapfile -t COMPREPLY < <(compgen -W "$kinds" -- "${word#=}")
-    elif [ "$option" = --hart ] || [ "$option" = --page ]; then
+    elif [ "$option" = --known ]; then
+        compopt -o filenames
+        mapfile -t COMPREPLY < <(compgen -f -- "${word#=}")
+    elif [ "$option" = --hart ] || [ "$option" = --page ] || [ "$option" = --max ]; then
         COMPREPLY=()
     elif [ -z "$command" ] || [ "$command" = help ]; then
         mapfile -t COMPREPLY < <(compgen -W "$("$program" help 2>/dev/null | sed -n 's/^  \([a-z]*\) .*/\1/p')" -- "$word")

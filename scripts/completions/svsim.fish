@@ -4,7 +4,7 @@ function __svsim_commands
 end
 # The first word that is no option, nor the value of one.
 function __svsim_command
-    set -l words (string join ' ' -- (commandline -opc)[2..] | string replace --all --regex -- '--(hart|page|kind) \\S+' '')
+    set -l words (string join ' ' -- (commandline -opc)[2..] | string replace --all --regex -- '--(hart|page|kind|max|known) \\S+' '')
     string match --invert --regex -- '^-.|^$' (string split ' ' -- $words) | head -n 1
 end
 function __svsim_wants_command
@@ -17,7 +17,7 @@ function __svsim_options
 end
 # The option whose value comes next, without its hyphens.
 function __svsim_option
-    string match --regex --groups-only -- '^--(hart|page|kind)$' (commandline -opc)[-1]
+    string match --regex --groups-only -- '^--(hart|page|kind|max|known)$' (commandline -opc)[-1]
 end
 function __svsim_kinds
     for kind in (svsim help watch 2>/dev/null | string match --regex --groups-only '^  --kind .*: ([a-z, ]*), or ' | string split ', ')
@@ -27,4 +27,5 @@ function __svsim_kinds
 end
 complete -c svsim -f -n 'not __svsim_option; and __svsim_wants_command' -a '(__svsim_commands)'
 complete -c svsim -F -n 'not __svsim_option; and not __svsim_wants_command' -a '(__svsim_options)'
-complete -c svsim -f -n '__svsim_option' -a '(test (__svsim_option) = kind; and __svsim_kinds)'
+complete -c svsim -f -n '__svsim_option; and not contains -- known (__svsim_option)' -a '(test (__svsim_option) = kind; and __svsim_kinds)'
+complete -c svsim -F -n 'contains -- known (__svsim_option)'

@@ -1,7 +1,7 @@
 //! The calls that take memory.
 
 use crate::verdict::Verdict;
-use crate::{causes, inspections, live, locked, machines, notes, stories, texts};
+use crate::{causes, inspections, known, live, locked, machines, notes, stories, texts};
 use std::alloc::Global;
 use std::sync::Wait;
 use std::thread::Threads;
@@ -24,12 +24,13 @@ pub enum Call {
     CheckNotes,
     Watch,
     WatchCauses,
+    WatchKnown,
     Explain,
 }
 
 impl Call {
     /// All of them, in the order of their lines.
-    pub const ALL: [Call; 16] = [
+    pub const ALL: [Call; 17] = [
         Call::MachineOpen,
         Call::MachineRun,
         Call::LockedCall,
@@ -45,6 +46,7 @@ impl Call {
         Call::CheckNotes,
         Call::Watch,
         Call::WatchCauses,
+        Call::WatchKnown,
         Call::Explain,
     ];
 
@@ -66,6 +68,7 @@ impl Call {
             Call::CheckNotes => "command Check with notes",
             Call::Watch => "watch_command",
             Call::WatchCauses => "watch_command_with by causes",
+            Call::WatchKnown => "answer_words with a list, in JSON",
             Call::Explain => "explain_command",
         }
     }
@@ -88,6 +91,7 @@ impl Call {
             Call::CheckNotes => inspections::notes(alloc),
             Call::Watch => notes::watch(alloc),
             Call::WatchCauses => causes::watch(alloc),
+            Call::WatchKnown => known::watch(rt, alloc),
             Call::Explain => stories::explain(alloc),
         }
     }

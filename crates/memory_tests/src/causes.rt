@@ -2,7 +2,7 @@
 
 use crate::inspections::ROOM;
 use crate::verdict::Verdict;
-use scenario::{Detail, Filter, watch_command_with};
+use scenario::{Detail, Filter, Form, KnownList, Options, watch_command_with};
 use std::alloc::Global;
 
 /// Hart 1 holds a page whose frame is given back.
@@ -44,15 +44,17 @@ pub fn watch(alloc: Global) -> Verdict {
         return Verdict::NoMemory;
     };
     let input = TRACE.as_bytes();
-    let status = watch_command_with(
-        alloc,
-        Detail::Causes,
-        Filter::default(),
-        "a trace",
-        input,
-        &mut out,
-        &mut err,
-    );
+    let options = Options {
+        detail: Detail::Causes,
+        filter: Filter::default(),
+        form: Form::Text,
+        most: None,
+    };
+    let known = KnownList {
+        file: b"",
+        entries: Vec::new(alloc),
+    };
+    let status = watch_command_with(alloc, options, known, "a trace", input, &mut out, &mut err);
     let (out, err) = (out.as_slice(), err.as_slice());
     let is_cut = out.is_empty() || out == BLOCK.as_bytes();
     if status == 5 && is_cut && err == b"svsim: no memory\n".as_slice() {

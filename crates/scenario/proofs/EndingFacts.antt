@@ -3,7 +3,7 @@ use Rattle.std.proofs.Common.{◌≡◌, ℕ, zero, suc, ◌⊎◌, Bool, true, 
 use Rattle.std.proofs.lemmas.Bool.{true≢false}
 use Rattle.files.specs.declared.fault.Fault.TheVariants as faults
 use Rattle.files.specs.Faults.{Failure, not_toml, bad_layout, too_many}
-use Rattle.scenario.specs.Command.{Ending, done, stale_used, explained, misused, unreadable, too_large, refused, output_failed, no_memory, no_thread, warned, wrong_line, no_verdict, error_line, failure_status, file_fault, IsToldAs, Leaves, Reports, status_of, Suits}
+use Rattle.scenario.specs.Command.{Ending, done, stale_used, explained, misused, unreadable, too_large, refused, output_failed, no_memory, no_thread, warned, wrong_line, no_verdict, wrong_entry, error_line, failure_status, file_fault, IsToldAs, Leaves, Reports, status_of, Suits}
 use Rattle.scenario.specs.Commands.{Meaning}
 use Rattle.scenario.specs.Output.{AppendsFront, EndsBy, WritesAll}
 use Rattle.scenario.specs.WorkedFiles.{IsOkLine}
@@ -38,6 +38,7 @@ module _ (meaning : Meaning) (file bytes : List ℕ) (out_old out_new err_old er
   done_by warned told suits leaves is status tells = absurd suits
   done_by (wrong_line number fault some) told suits leaves is status tells = absurd suits
   done_by (no_verdict line) told suits leaves is status tells = absurd suits
+  done_by (wrong_entry fault) told suits leaves is status tells = absurd suits
 
   of_failure : (failure : Failure) (ending told : Ending) → error_line file ending ≡ error_line file (refused failure) → file_fault meaning bytes ≡ Some failure → (told ≡ ending) ⊎ (told ≡ no_memory)
       → 3 ≡ status_of told → AppendsFront err_old err_new (error_line file told)
@@ -60,6 +61,7 @@ module _ (meaning : Meaning) (file bytes : List ℕ) (out_old out_new err_old er
   refused_by warned told suits is status tells = absurd suits
   refused_by (wrong_line number fault some) told suits is status tells = absurd suits
   refused_by (no_verdict line) told suits is status tells = absurd suits
+  refused_by (wrong_entry fault) told suits is status tells = absurd suits
 
 -- ---- endings that are written out
 

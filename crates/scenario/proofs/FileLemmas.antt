@@ -6,10 +6,11 @@ use Rattle.std.proofs.lemmas.List.{length-replicate}
 use Rattle.files.specs.declared.fault.Fault.TheVariants as faults
 use Rattle.scenario.specs.declared.trouble.Trouble.{Trouble}
 use Rattle.scenario.specs.declared.trouble.Trouble.TheVariants as troubles
-use Rattle.scenario.specs.Command.{done, Ending, explained, misused, ending_of, Ends, IsToldAs, Leaves, no_memory, no_thread, output_failed, refused, Reports, stale_used, status_of, Suits, too_large, unreadable, warned, wrong_line, no_verdict}
+use Rattle.scenario.specs.Command.{done, Ending, explained, misused, ending_of, Ends, IsToldAs, Leaves, no_memory, no_thread, output_failed, refused, Reports, stale_used, status_of, Suits, too_large, unreadable, warned, wrong_line, no_verdict, wrong_entry}
 use Rattle.scenario.specs.Commands.{Meaning}
 use Rattle.scenario.specs.Outcomes.{IsAnswered}
 use Rattle.scenario.specs.Input.{AreLeft, IsReadTrouble}
+use Rattle.scenario.specs.KnownFiles.{ReadsAs}
 use Rattle.scenario.specs.Limits.{most_bytes}
 
 -- bytes that a reader may have
@@ -29,9 +30,24 @@ unread meaning (Some bytes) troubles.TooLarge h = (bytes, refl, λ old new kept.
 unread meaning left troubles.NoThread h = absurd h
 unread meaning left (troubles.Line number fault some) h = absurd h
 unread meaning left (troubles.NoVerdict line) h = absurd h
+unread meaning left (troubles.KnownLine fault) h = absurd h
 unread meaning left (troubles.Refused fault) h =
     let any = some_bytes left in
     subst (λ f. (bytes : List ℕ) × AreLeft left bytes × IsAnswered meaning bytes (Err (troubles.Refused f))) (sym h) (any.0, any.1, λ old new kept. record { suits = tt; leaves = kept })
+
+-- and so does a list
+pub list_unread : (left : Option (List ℕ)) (trouble : Trouble) → IsReadTrouble trouble left → (bytes : List ℕ) × AreLeft left bytes × ReadsAs bytes (Err (ending_of trouble))
+list_unread left troubles.Usage h = absurd h
+list_unread left troubles.Unreadable h = let any = some_bytes left in (any.0, any.1, tt)
+list_unread None troubles.TooLarge h = let long = long_bytes most_bytes in (long.0, tt, long.1)
+list_unread (Some bytes) troubles.TooLarge h = (bytes, refl, h)
+list_unread left troubles.NoThread h = absurd h
+list_unread left (troubles.Line number fault some) h = absurd h
+list_unread left (troubles.NoVerdict line) h = absurd h
+list_unread left (troubles.KnownLine fault) h = absurd h
+list_unread left (troubles.Refused fault) h =
+    let any = some_bytes left in
+    subst (λ f. (bytes : List ℕ) × AreLeft left bytes × ReadsAs bytes (Err (ending_of (troubles.Refused f)))) (sym h) (any.0, any.1, tt)
 
 -- a trouble is reported as it is, or as no memory
 pub told_itself : (trouble : Trouble) → IsToldAs (ending_of trouble) (ending_of trouble)
@@ -41,6 +57,7 @@ told_itself troubles.TooLarge = inl refl
 told_itself troubles.NoThread = inl refl
 told_itself (troubles.Line number fault some) = inl refl
 told_itself (troubles.NoVerdict line) = inl refl
+told_itself (troubles.KnownLine fault) = inl refl
 told_itself (troubles.Refused faults.NotToml) = inl refl
 told_itself (troubles.Refused (faults.Key name)) = inl refl
 told_itself (troubles.Refused faults.Layout) = inl refl
@@ -57,6 +74,7 @@ told_memory troubles.TooLarge = inr refl
 told_memory troubles.NoThread = inr refl
 told_memory (troubles.Line number fault some) = inr refl
 told_memory (troubles.NoVerdict line) = inr refl
+told_memory (troubles.KnownLine fault) = inr refl
 told_memory (troubles.Refused faults.NotToml) = inr refl
 told_memory (troubles.Refused (faults.Key name)) = inr refl
 told_memory (troubles.Refused faults.Layout) = inr refl
@@ -107,6 +125,7 @@ silent_by meaning bytes no_thread told old new quiet suits is refused_so h = h
 silent_by meaning bytes warned told old new quiet suits is refused_so h = absurd suits
 silent_by meaning bytes (wrong_line number fault some) told old new quiet suits is refused_so h = absurd suits
 silent_by meaning bytes (no_verdict line) told old new quiet suits is refused_so h = absurd suits
+silent_by meaning bytes (wrong_entry fault) told old new quiet suits is refused_so h = absurd suits
 
 pub silent : (meaning : Meaning) → ¬ meaning.Explains → (file : List ℕ) (left : Option (List ℕ)) (status : ℕ) (out_old out_new err_old err_new : Option (List ℕ))
     → (bytes : List ℕ) × AreLeft left bytes × Ends meaning file bytes status out_old out_new err_old err_new → (status ≡ 2) ⊎ (status ≡ 3) → Keeps out_old out_new

@@ -7,7 +7,7 @@ use Rattle.std.specs.Str.Parse.{AllDigits, IsNumeral, ParsesUnsigned, digits_val
 use Rattle.std.proofs.lemmas.Bool.{leb-true, ne_eqb}
 use Rattle.std.proofs.lemmas.Bool.Decides.{nat_tests}
 use Rattle.clap.proofs.WalkLemmas.{both}
-use Rattle.scenario.specs.Tasks.{is_decimal, line_in, line_number}
+use Rattle.scenario.specs.Tasks.{is_decimal, number_in, with_room}
 
 -- a digit is neither a plus nor worth 10
 digit_is : (c : ℕ) → is_ascii_digit c ≡ true → (digit_value c < 10) × ((c == 43) ≡ false)
@@ -28,10 +28,6 @@ no_plus : (text : List ℕ) → list_all is_ascii_digit text ≡ true → withou
 no_plus [] e = refl
 no_plus (c ∷ text) e = ap (λ (t : Bool). drop (cond t 1 0) (c ∷ text)) (digit_is c (both _ _ e).0).1
 
-refused : (t : Bool) (n : ℕ) → (if t && false then Some n else None) ≡ None
-refused true n = refl
-refused false n = refl
-
 -- what is read of a text of digits
 module _ {E : Type 0} (text : List ℕ) (r : Result ℕ E) (read : ParsesUnsigned 64 10 text r) (decimal : is_decimal text ≡ true) where
   parts : (nat_lt 0 (length text) ≡ true) × (list_all is_ascii_digit text ≡ true)
@@ -40,17 +36,15 @@ module _ {E : Type 0} (text : List ℕ) (r : Result ℕ E) (read : ParsesUnsigne
   reads : OkIff r (IsNumeral 10 text × (digits_value 10 text < 2 ^ 64)) (digits_value 10 text)
   reads = subst (λ (t : List ℕ). OkIff r (IsNumeral 10 t × (digits_value 10 t < 2 ^ 64)) (digits_value 10 t)) (no_plus text parts.1) read
 
-  its_number : line_in text ≡ line_number (digits_value 10 text)
+  its_number : number_in text ≡ with_room (digits_value 10 text)
   its_number = rw decimal refl
 
-  pub too_large : (e : E) → r ≡ Err e → line_in text ≡ None
+  pub too_large : (e : E) → r ≡ Err e → number_in text ≡ None
   too_large e is = its_number ∙ go (nat_lt (digits_value 10 text) (2 ^ 64)) refl
     where
       numeral : IsNumeral 10 text
       numeral = (ltb-true _ _ parts.0, digits_from text parts.1)
 
-      go : (t : Bool) → nat_lt (digits_value 10 text) (2 ^ 64) ≡ t → line_number (digits_value 10 text) ≡ None
+      go : (t : Bool) → nat_lt (digits_value 10 text) (2 ^ 64) ≡ t → with_room (digits_value 10 text) ≡ None
       go true small = absurd ((rw is at reads) (numeral, ltb-true _ _ small))
-      go false large =
-          let n = digits_value 10 text in
-          ap (λ (t : Bool). if nat_lt 0 n && t then Some n else None) large ∙ refused (nat_lt 0 n) n
+      go false large = ap (λ (t : Bool). if t then Some (digits_value 10 text) else None) large

@@ -10,7 +10,7 @@ use Rattle.clap.specs.Faults.{bundle_fault, bundle_step_fault, flag_word_fault, 
 use Rattle.clap.specs.Kinds.{Kinds}
 use Rattle.clap.specs.Lexer.{long_of, long_of_rest, short_of, short_of_rest, strip_byte}
 use Rattle.clap.specs.Walk.{Held}
-use Rattle.scenario.specs.CommandLine.{Known, is_end, is_option, known, name_in, option_in, value_in}
+use Rattle.scenario.specs.CommandLine.{OptionName, is_end, is_option, option_names, name_in, option_in, value_in}
 use Rattle.scenario.proofs.RowLemmas.{long_rule, named, rule_by, top}
 
 abbrev pub Pending : Type 0
@@ -50,14 +50,14 @@ second_char y rest text = go (chars (y ∷ rest)) refl
     go [] is = absurd (true≢false (sym text ∙ ap (λ (cs : List ℕ). scalars (45 ∷ cs) && bytes_eq (encode_utf8_all (45 ∷ cs)) (45 ∷ y ∷ rest)) is))
 
 -- the faults of an option
-abbrev pub option_fault : Option Known → Option Text → Held → Kinds
+abbrev pub option_fault : Option OptionName → Option Text → Held → Kinds
 option_fault option value held = long_fault top.rules false (option_map rule_by option) value held
 
 -- clap reads the name of an option, and its value, as `option_in` and `value_in` do
 pub record IsRead (word : Text) : Type 0 where
   pub faults : (rows : List Row) (pending : Pending) → flag_word_fault top.rules false (long_of word) word (held_of rows pending) ≡ option_fault (option_in word) (value_in word) (held_of rows pending)
-  pub is_long : (option : Known) → option_in word ≡ Some option
-      → (long_of word ≡ Some (name_in word, value_in word)) × (find (named (name_in word)) known ≡ Some option)
+  pub is_long : (option : OptionName) → option_in word ≡ Some option
+      → (long_of word ≡ Some (name_in word, value_in word)) × (find (named (name_in word)) option_names ≡ Some option)
 
 -- `-x..`
 short_read : (y : ℕ) (rest : Text) → (y == 45) ≡ false → is_utf8 (45 ∷ y ∷ rest) ≡ true → IsRead (45 ∷ y ∷ rest)

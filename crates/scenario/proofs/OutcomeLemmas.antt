@@ -84,6 +84,7 @@ module _ (meaning : Meaning) (bytes : List ℕ) (utf8 : IsUtf8 bytes) (short : l
   unanswered_ends troubles.NoThread h old new kept = record { suits = (h.0, short, its_text ∙ h.1); leaves = kept }
   unanswered_ends (troubles.Line number fault some) h old new kept = absurd h
   unanswered_ends (troubles.NoVerdict line) h old new kept = absurd h
+  unanswered_ends (troubles.KnownLine fault) h old new kept = absurd h
   unanswered_ends (troubles.Refused faults.NotToml) h old new kept = refused_ends _ old new (λ e. another faults.NotToml refl (h.1 e)) h.0 kept
   unanswered_ends (troubles.Refused (faults.Key name)) h old new kept = refused_ends _ old new (λ e. another (faults.Key name) refl (h.1 e)) h.0 kept
   unanswered_ends (troubles.Refused faults.Layout) h old new kept = refused_ends _ old new (λ e. another faults.Layout refl (h.1 e)) h.0 kept

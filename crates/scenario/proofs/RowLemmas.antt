@@ -15,8 +15,8 @@ use Rattle.clap.specs.Faults.{check_fault, defaults_fault, given_default_fault}
 use Rattle.clap.specs.Kinds.{Kinds, check_kinds, or_else}
 use Rattle.clap.specs.Simple.{Shape, built, filled, with_index}
 use Rattle.clap.specs.Walk.{arg_by_id, arg_by_long, at_row, default_rows, has_row, is_empty, more_values, reading_by, with_default, with_values, without}
-use Rattle.scenario.specs.CommandLine.{Asked, Known, asked_in_rows, asked_of, asked_with, is_given, known, option_rule, svsim, text_of, value_rule}
-use Rattle.scenario.specs.Tasks.{Options, is_set, options_of}
+use Rattle.scenario.specs.CommandLine.{Asked, OptionName, asked_in_rows, asked_of, asked_with, is_given, option_names, option_rule, svsim, text_of, value_rule}
+use Rattle.scenario.specs.Tasks.{GivenOptions, is_set, options_given}
 
 -- ---- lists
 
@@ -81,17 +81,17 @@ file_rule = with_index 2 (filled (value_rule (codes "FILE")))
 abbrev pub line_rule : Rule
 line_rule = with_index 3 (filled (new_rule (codes "LINE")))
 
-abbrev pub rule_by : Known → Rule
+abbrev pub rule_by : OptionName → Rule
 rule_by option = filled (option_rule option)
 
-abbrev pub named : Text → Known → Bool
+abbrev pub named : Text → OptionName → Bool
 named name option = bytes_eq option.name name
 
 -- the option of a long name
-pub long_rule : (name : Text) → arg_by_long top.rules name ≡ option_map rule_by (find (named name) known)
-long_rule name = go known
+pub long_rule : (name : Text) → arg_by_long top.rules name ≡ option_map rule_by (find (named name) option_names)
+long_rule name = go option_names
   where
-    go : (options : List Known) → arg_by_long (map rule_by options) name ≡ option_map rule_by (find (named name) options)
+    go : (options : List OptionName) → arg_by_long (map rule_by options) name ≡ option_map rule_by (find (named name) options)
     go [] = refl
     go (option ∷ rest) = by (named name option) (go rest)
       where
@@ -101,22 +101,22 @@ long_rule name = go known
         by false e = e
 
 -- no option has the name of a value
-abbrev is_no_value : Known → Bool
+abbrev is_no_value : OptionName → Bool
 is_no_value option =
     not (bytes_eq (codes "COMMAND") option.name || (bytes_eq (codes "FILE") option.name || bytes_eq (codes "LINE") option.name))
 
 -- and each is found by its name
-pub rule_is : (name : Text) (option : Known) → find (named name) known ≡ Some option → arg_by_id top.rules option.name ≡ Some (rule_by option)
+pub rule_is : (name : Text) (option : OptionName) → find (named name) option_names ≡ Some option → arg_by_id top.rules option.name ≡ Some (rule_by option)
 rule_is name option found =
-    let holds = found_holds (named name) is_no_value known option refl found in
+    let holds = found_holds (named name) is_no_value option_names option refl found in
     let same : option.name ≡ name = (bytes_eq-Decides option.name name).0 holds.1 in
-    let itself : find (named option.name) known ≡ Some option = ap (λ n. find (named n) known) same ∙ found in
+    let itself : find (named option.name) option_names ≡ Some option = ap (λ n. find (named n) option_names) same ∙ found in
     go (bytes_eq (codes "COMMAND") option.name) (bytes_eq (codes "FILE") option.name) (bytes_eq (codes "LINE") option.name) holds.0
-    ∙ (find_mapped (λ rule. bytes_eq rule.id option.name) rule_by known ∙ ap (option_map rule_by) itself)
+    ∙ (find_mapped (λ rule. bytes_eq rule.id option.name) rule_by option_names ∙ ap (option_map rule_by) itself)
   where
     go : (c f l : Bool) → not (c || (f || l)) ≡ true
-        → cond c (Some command_rule) (cond f (Some file_rule) (cond l (Some line_rule) (arg_by_id (map rule_by known) option.name)))
-        ≡ arg_by_id (map rule_by known) option.name
+        → cond c (Some command_rule) (cond f (Some file_rule) (cond l (Some line_rule) (arg_by_id (map rule_by option_names) option.name)))
+        ≡ arg_by_id (map rule_by option_names) option.name
     go false false false e = refl
     go true f l e = absurd (true≢false (sym e))
     go false true l e = absurd (true≢false (sym e))
@@ -245,17 +245,18 @@ text_in o = option_and_then (λ r. slice_get r.values 0) o
 abbrev pub asked_if_right : List Row → Option Asked
 asked_if_right rows = if is_empty (check_fault top rows false) then asked_in_rows rows else None
 
-abbrev with_required : Bool → Bool → Option Text → Options → Option Text → Option Asked
+abbrev with_required : Bool → Bool → Option Text → GivenOptions → Option Text → Option Asked
 with_required has_command has_file c options f =
     if is_empty (check_kinds false false (not has_command || (not has_file || false))) then asked_with c options f else None
 
-required_are_there : (c f : Option Text) (options : Options) → with_required (is_some c) (is_some f) c options f ≡ asked_with c options f
+required_are_there : (c f : Option Text) (options : GivenOptions) → with_required (is_some c) (is_some f) c options f ≡ asked_with c options f
 required_are_there None f options = refl
 required_are_there (Some c) None options = refl
 required_are_there (Some c) (Some f) options = refl
 
-abbrev options_by : Bool → Bool → Option Text → Option Text → Option Text → Option Text → Options
-options_by all quiet hart page kind line = record { all = all; quiet = quiet; hart = hart; page = page; kind = kind; line = line }
+abbrev options_by : Bool → Bool → Bool → Option Text → Option Text → Option Text → Option Text → Option Text → Option Text → GivenOptions
+options_by all quiet json hart page kind max known line =
+    record { all = all; quiet = quiet; json = json; hart = hart; page = page; kind = kind; max = max; known = known; line = line }
 
 -- by the row of each name
 module _ (at : Text → Option Row) (text : Text → Option Text) where
@@ -263,7 +264,7 @@ module _ (at : Text → Option Row) (text : Text → Option Text) where
   read name = text_in (at name)
 
   abbrev outcome : Option Asked
-  outcome = with_required (is_explicit (at (codes "COMMAND"))) (is_explicit (at (codes "FILE"))) (read (codes "COMMAND")) (options_of read) (read (codes "FILE"))
+  outcome = with_required (is_explicit (at (codes "COMMAND"))) (is_explicit (at (codes "FILE"))) (read (codes "COMMAND")) (options_given read) (read (codes "FILE"))
 
   abbrev Reads : Text → Type 0
   Reads name = read name ≡ text name
@@ -274,20 +275,17 @@ module _ (at : Text → Option Row) (text : Text → Option Text) where
   abbrev Needs : Text → Type 0
   Needs name = is_explicit (at name) ≡ is_some (text name)
 
-  options_are : ReadsFlag (codes "all") → ReadsFlag (codes "quiet") → Reads (codes "hart") → Reads (codes "page") → Reads (codes "kind") → Reads (codes "LINE")
-      → options_of read ≡ options_of text
-  options_are all quiet hart page kind line =
-      ap₂ (λ a q. options_by a q (read (codes "hart")) (read (codes "page")) (read (codes "kind")) (read (codes "LINE"))) all quiet
-      ∙ (ap₂ (λ h p. options_by (is_set (text (codes "all"))) (is_set (text (codes "quiet"))) h p (read (codes "kind")) (read (codes "LINE"))) hart page
-      ∙ ap₂ (options_by (is_set (text (codes "all"))) (is_set (text (codes "quiet"))) (text (codes "hart")) (text (codes "page"))) kind line)
+  options_are : ReadsFlag (codes "all") → ReadsFlag (codes "quiet") → ReadsFlag (codes "json") → Reads (codes "hart") → Reads (codes "page") → Reads (codes "kind")
+      → Reads (codes "max") → Reads (codes "known") → Reads (codes "LINE") → options_given read ≡ options_given text
+  options_are all quiet json hart page kind max known line = rw (all, quiet, json, hart, page, kind, max, known, line) refl
 
-  outcome_is : Needs (codes "COMMAND") → Needs (codes "FILE") → Reads (codes "COMMAND") → Reads (codes "FILE") → options_of read ≡ options_of text → outcome ≡ asked_of text
+  outcome_is : Needs (codes "COMMAND") → Needs (codes "FILE") → Reads (codes "COMMAND") → Reads (codes "FILE") → options_given read ≡ options_given text → outcome ≡ asked_of text
   outcome_is has_command has_file command file options =
       let c = text (codes "COMMAND") in
       let f = text (codes "FILE") in
-      ap₂ (λ a b. with_required a b (read (codes "COMMAND")) (options_of read) (read (codes "FILE"))) has_command has_file
-      ∙ (ap₂ (λ x y. with_required (is_some c) (is_some f) x (options_of read) y) command file
-      ∙ (ap (λ o. with_required (is_some c) (is_some f) c o f) options ∙ required_are_there c f (options_of text)))
+      ap₂ (λ a b. with_required a b (read (codes "COMMAND")) (options_given read) (read (codes "FILE"))) has_command has_file
+      ∙ (ap₂ (λ x y. with_required (is_some c) (is_some f) x (options_given read) y) command file
+      ∙ (ap (λ o. with_required (is_some c) (is_some f) c o f) options ∙ required_are_there c f (options_given text)))
 
 abbrev second : Option (Text × Text) → Option Text
 second o = option_map (λ g. g.1) o
@@ -315,7 +313,7 @@ asked_at_end given =
     let value = λ (id : Text) (none : text_in (row_by id None) ≡ None). ap text_in (row_at_end id given) ∙ valued_by id none (find (given_by id) given) in
     let flag = λ (id : Text) (none : is_set (text_in (row_by id None)) ≡ false). ap (λ o. is_set (text_in o)) (row_at_end id given) ∙ flag_by id none (find (given_by id) given) in
     let needed = λ (id : Text) (none : is_explicit (row_by id None) ≡ false). ap is_explicit (row_at_end id given) ∙ needed_by id none (find (given_by id) given) in
-    let options = options_are (λ id. find (by id) rows) (text_of given) (flag (codes "all") refl) (flag (codes "quiet") refl)
-    (value (codes "hart") refl) (value (codes "page") refl) (value (codes "kind") refl) (value (codes "LINE") refl) in
+    let options = options_are (λ id. find (by id) rows) (text_of given) (flag (codes "all") refl) (flag (codes "quiet") refl) (flag (codes "json") refl)
+    (value (codes "hart") refl) (value (codes "page") refl) (value (codes "kind") refl) (value (codes "max") refl) (value (codes "known") refl) (value (codes "LINE") refl) in
     outcome_is (λ id. find (by id) rows) (text_of given) (needed (codes "COMMAND") refl) (needed (codes "FILE") refl)
     (value (codes "COMMAND") refl) (value (codes "FILE") refl) options

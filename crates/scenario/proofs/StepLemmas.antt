@@ -16,7 +16,7 @@ use Rattle.clap.specs.Lexer.{long_of}
 use Rattle.clap.specs.Simple.{built, entered}
 use Rattle.clap.specs.Walk.{Held, Step, Waiting, Walk, after_flag, after_step, arg_by_id, arg_by_index, arg_by_long, finished, has_row, idle, is_empty, is_pending, long_met, long_or_other, next, nothing_held, option as awaiting, option_word, pending_count, positional, pushed, settled, settled_rows, short_or_plain, to_positional, trailing, used, used_by_id, value, walked, with_default, with_values, without, word_met}
 use Rattle.clap.proofs.WalkLemmas.{both}
-use Rattle.scenario.specs.CommandLine.{Asked, Known, asked, asked_in_rows, asked_of, is_end, is_given, is_option, name_in, option_in, svsim, text_of, value_in, valued, values}
+use Rattle.scenario.specs.CommandLine.{Asked, OptionName, asked, asked_in_rows, asked_of, is_end, is_given, is_option, name_in, option_in, svsim, text_of, value_in, valued, values}
 use Rattle.scenario.proofs.RowLemmas.{Given, asked_at_end, asked_if_right, command_rule, file_rule, line_rule, long_rule, no_default_fault, row_is_given, rows_of, rule_by, top, used_row}
 use Rattle.scenario.proofs.OptionLemmas.{IsPlain, IsRead, Pending, held_of, option_fault, option_read, plain_word}
 
@@ -269,7 +269,7 @@ own_fault (awaiting name) word held = refl
 own_fault positional word held = refl
 
 -- an option settles what is pending, or is refused
-pub option_refused : (option : Option Known) (text : Option Text) (rows : List Row) (pending : Pending) → IsDoomed rows pending
+pub option_refused : (option : Option OptionName) (text : Option Text) (rows : List Row) (pending : Pending) → IsDoomed rows pending
     → (kind : ErrorKind) × (option_fault option text (held_of rows pending) ≡ kind ∷ [])
 option_refused None text rows pending doomed = (kinds.UnknownArgument, refl)
 option_refused (Some option) text rows pending doomed = by option.name option.takes_value text
@@ -297,7 +297,7 @@ module _ (waiting : Waiting) (position : ℕ) (word : Text) (words : List Text) 
 
 -- an option that is known, and may be used
 module _ (position : ℕ) (word : Text) (rows : List Row) (pending : Pending) (no_end : is_end word ≡ false) (read : IsRead word)
-    (known_one : Known) (text : Option Text) (is_known : option_in word ≡ Some known_one) (has_text : value_in word ≡ text) where
+    (known_one : OptionName) (text : Option Text) (is_known : option_in word ≡ Some known_one) (has_text : value_in word ≡ text) where
   abbrev held_now : Held
   held_now = held_of rows pending
 

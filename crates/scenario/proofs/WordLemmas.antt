@@ -10,7 +10,7 @@ use Rattle.clap.specs.Faults.{settle_fault, turn_fault, use_fault}
 use Rattle.clap.specs.Kinds.{Kinds, or_else}
 use Rattle.clap.specs.Walk.{Walk, arg_by_id, idle, option as awaiting, settled_rows, used, walked}
 use Rattle.clap.proofs.WalkLemmas.{first_value-rows}
-use Rattle.scenario.specs.CommandLine.{Asked, Known, Place, Read, asked, asked_after, asked_by, asked_in_words, asked_of, before_end, behind_end, behind_option, give, give_known, give_option, give_value, is_end, is_given, is_option, name_in, option_in, read_word, svsim, value_in, valued}
+use Rattle.scenario.specs.CommandLine.{Asked, OptionName, Place, Read, asked, asked_after, asked_by, asked_in_words, asked_of, before_end, behind_end, behind_option, give, give_known, give_option, give_value, is_end, is_given, is_option, name_in, option_in, read_word, svsim, value_in, valued}
 use Rattle.scenario.specs.Tasks.{no_options, with_line}
 use Rattle.scenario.proofs.RowLemmas.{Given, command_rule, file_rule, line_rule, rows_of, rule_by, rule_is, top}
 use Rattle.scenario.proofs.OptionLemmas.{IsRead, Pending, held_of, option_fault, option_read, plain_word}
@@ -22,7 +22,7 @@ pub asked_found : (f : Found) (words : List (List ℕ)) → fault_of svsim words
 unfolding asked
 asked_found f words none rows =
     let read = first_value-rows f in
-    rw (none, ← rows, read (codes "COMMAND"), read (codes "FILE"), read (codes "all"), read (codes "quiet"), read (codes "hart"), read (codes "page"), read (codes "kind"), read (codes "LINE")) refl
+    rw (none, ← rows, read (codes "COMMAND"), read (codes "FILE"), read (codes "all"), read (codes "quiet"), read (codes "json"), read (codes "hart"), read (codes "page"), read (codes "kind"), read (codes "max"), read (codes "known"), read (codes "LINE")) refl
 
 -- ---- what is read off the words
 
@@ -123,7 +123,7 @@ module _ (words : List Text) (texts : list_all is_utf8 words ≡ true) (followed
         (known_walked (position_at left) word rows pending no_end read _ None is has)
         ∙ awaited name left _ _ given (record { pending_is = refl; has = holds.has; by_id = rule_is (name_in word) _ (read.is_long _ is).1 })
 
-    option_is_read : Holds rows pending given → is_end word ≡ false → IsRead word → (o : Option Known) → option_in word ≡ o
+    option_is_read : Holds rows pending given → is_end word ≡ false → IsRead word → (o : Option OptionName) → option_in word ≡ o
         → from here (word ∷ words) ≡ after (give_known o (value_in word) now_read) words
     option_is_read holds no_end read None is =
         option_fails idle (position_at left) word words rows pending no_end read

@@ -6,7 +6,9 @@ use Rattle.scenario.specs.declared.trouble.Trouble.{Trouble}
 use Rattle.scenario.specs.declared.trouble.Trouble.TheVariants as troubles
 use Rattle.files.specs.declared.fault.Fault.{Fault}
 use Rattle.files.specs.declared.fault.Fault.TheVariants as faults
+use Rattle.watch_report.specs.declared.known_fault.KnownFault.{KnownFault}
 use Rattle.watch_report.specs.declared.line_fault.LineFault.{LineFault}
+use Rattle.watch_report.specs.KnownFaults.{known_fault_text}
 use Rattle.watch_report.specs.ReasonTexts.{line_fault_text}
 use Rattle.files.specs.Faults.{Failure, not_toml, wrong_key, bad_layout, too_many, wrong_step, wrong_script, failure_text}
 use Rattle.scenario.specs.Commands.{Meaning}
@@ -40,6 +42,7 @@ pub data Ending : Type 0 where
   warned : Ending
   wrong_line : ℕ → LineFault → Bool → Ending
   no_verdict : ℕ → Ending
+  wrong_entry : KnownFault → Ending
 
 abbrev pub failure_status : Failure → ℕ
 failure_status not_toml = 2
@@ -59,6 +62,7 @@ status_of no_thread = 5
 status_of warned = 1
 status_of (wrong_line number fault some) = if some then 1 else 3
 status_of (no_verdict line) = 1
+status_of (wrong_entry fault) = 3
 
 abbrev pub reason : List ℕ → Ending → List ℕ
 reason file done = []
@@ -76,8 +80,9 @@ reason file (wrong_line number fault some) =
     file ++ codes ":" ++ decimal number ++ codes ":" ++ line_fault_text fault
 reason file (no_verdict line) =
     file ++ codes ":" ++ decimal line ++ codes ": no such verdict"
+reason file (wrong_entry fault) = file ++ codes ":" ++ known_fault_text fault
 
--- the line on standard error: of a line of the file as compilers write it
+-- the line on standard error: of a line of a file as compilers write it
 abbrev pub error_line : List ℕ → Ending → List ℕ
 error_line file done = []
 error_line file stale_used = []
@@ -85,6 +90,7 @@ error_line file warned = []
 error_line file (wrong_line number fault some) =
     reason file (wrong_line number fault some) ++ codes "\n"
 error_line file (no_verdict line) = reason file (no_verdict line) ++ codes "\n"
+error_line file (wrong_entry fault) = reason file (wrong_entry fault) ++ codes "\n"
 error_line file ending = codes "svsim: " ++ reason file ending ++ codes "\n"
 
 -- of a file named `f`, an ending has this status and this line
@@ -112,6 +118,7 @@ Suits meaning bytes no_thread = meaning.StartsThreads × (length bytes ≤ most_
 Suits meaning bytes warned = ⊥
 Suits meaning bytes (wrong_line number fault some) = ⊥
 Suits meaning bytes (no_verdict line) = ⊥
+Suits meaning bytes (wrong_entry fault) = ⊥
 
 -- what was written of the lines: all, a beginning, or nothing
 abbrev pub Leaves : (List ℕ → Type 0) → Ending → Option (List ℕ) → Option (List ℕ) → Type 0
@@ -169,4 +176,5 @@ ending_of troubles.TooLarge = too_large
 ending_of troubles.NoThread = no_thread
 ending_of (troubles.Line number fault some) = wrong_line number fault some
 ending_of (troubles.NoVerdict line) = no_verdict line
+ending_of (troubles.KnownLine fault) = wrong_entry fault
 ending_of (troubles.Refused fault) = ending_of_fault fault

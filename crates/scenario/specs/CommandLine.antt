@@ -20,31 +20,36 @@ use Rattle.scenario.specs.declared.trouble.Trouble.{Trouble}
 use Rattle.scenario.specs.declared.trouble.Trouble.TheVariants.{Usage, Refused}
 use Rattle.scenario.specs.Command.{Ending, misused, no_memory}
 use Rattle.scenario.specs.Commands.{command_of}
-use Rattle.scenario.specs.Tasks.{Options, options_of, task_of}
+use Rattle.scenario.specs.Tasks.{GivenOptions, options_given, task_of}
 
--- what is done, and the name of the file with which it is
+-- what is done, the name of the file with which it is, and that of a list of what is known
 pub record Asked : Type 0 where
   pub task : Task
   pub file : List ℕ
+  pub known : Option (List ℕ)
 
 abbrev pub ask_view : Ask → Asked
-ask_view ask = record { task = ask.task; file = ask.file.now }
+ask_view ask = record {
+  task = ask.task;
+  file = ask.file.now;
+  known = option_map (λ text. text.now) ask.known;
+}
 
 -- by the word of a command, options and a file
-abbrev pub asked_by : List ℕ → Options → List ℕ → Option Asked
+abbrev pub asked_by : List ℕ → GivenOptions → List ℕ → Option Asked
 asked_by word options file =
-    option_map (λ task. record { task = task; file = file })
+    option_map (λ task. record { task = task; file = file; known = options.known })
     (option_and_then (task_of options) (command_of word))
 
 -- ---- by names
 
 -- COMMAND, options and FILE
-abbrev pub asked_with : Option (List ℕ) → Options → Option (List ℕ) → Option Asked
+abbrev pub asked_with : Option (List ℕ) → GivenOptions → Option (List ℕ) → Option Asked
 asked_with (Some word) options (Some file) = asked_by word options file
 asked_with _ options _ = None
 
 abbrev pub asked_of : (List ℕ → Option (List ℕ)) → Option Asked
-asked_of named = asked_with (named (codes "COMMAND")) (options_of named) (named (codes "FILE"))
+asked_of named = asked_with (named (codes "COMMAND")) (options_given named) (named (codes "FILE"))
 
 -- ---- the names
 
@@ -56,30 +61,30 @@ abbrev pub values : List (List ℕ)
 values = required ++ codes "LINE" ∷ []
 
 -- a name of an option, which is a flag or takes a value
-pub record Known : Type 0 where
+pub record OptionName : Type 0 where
   pub name : List ℕ
   pub takes_value : Bool
 
-abbrev pub flag : List ℕ → Known
+abbrev pub flag : List ℕ → OptionName
 flag name = record { name = name; takes_value = false }
 
-abbrev pub valued : List ℕ → Known
+abbrev pub valued : List ℕ → OptionName
 valued name = record { name = name; takes_value = true }
 
 -- of the options
-abbrev pub known : List Known
-known = flag (codes "all") ∷ flag (codes "quiet") ∷ valued (codes "hart") ∷ valued (codes "page")
-    ∷ valued (codes "kind") ∷ []
+abbrev pub option_names : List OptionName
+option_names = flag (codes "all") ∷ flag (codes "quiet") ∷ flag (codes "json") ∷ valued (codes "hart")
+    ∷ valued (codes "page") ∷ valued (codes "kind") ∷ valued (codes "max") ∷ valued (codes "known") ∷ []
 
 -- ---- what clap takes
 
 abbrev pub value_rule : List ℕ → Rule
 value_rule name = record (new_rule name) { required = true }
 
-abbrev pub action_of : Known → ArgAction
+abbrev pub action_of : OptionName → ArgAction
 action_of option = if option.takes_value then Set else SetTrue
 
-abbrev pub option_rule : Known → Rule
+abbrev pub option_rule : OptionName → Rule
 option_rule option = record (new_rule option.name) {
   long = Some option.name;
   action = Some (action_of option);
@@ -91,7 +96,7 @@ without_help app = on_top (λ top. record top { disable_help_flag = true }) app
 -- the values and the options; `--help` is none
 abbrev pub svsim : App
 svsim = fold with_rule (without_help (new_app (codes "svsim")))
-    (map value_rule required ++ new_rule (codes "LINE") ∷ map option_rule known)
+    (map value_rule required ++ new_rule (codes "LINE") ∷ map option_rule option_names)
 
 abbrev pub asked_in_rows : List Row → Option Asked
 asked_in_rows rows = asked_of (λ name. first_of name rows)
@@ -130,9 +135,9 @@ value_in word =
     if list_any is_equals (drop 2 word) then Some (after_first is_equals (drop 2 word)) else None
 
 -- the option that the word names
-abbrev pub option_in : List ℕ → Option Known
+abbrev pub option_in : List ℕ → Option OptionName
 option_in word =
-    if is_long word then find (λ option. bytes_eq option.name (name_in word)) known else None
+    if is_long word then find (λ option. bytes_eq option.name (name_in word)) option_names else None
 
 -- where a word stands: before `--`, behind the option whose value it is, or behind `--`
 pub data Place : Type 0 where
@@ -169,7 +174,7 @@ give_option false name (Some value) read = None
 give_option true name (Some value) read = give name value read
 give_option true name None read = Some (record read { place = behind_option name })
 
-abbrev pub give_known : Option Known → Option (List ℕ) → Read → Option Read
+abbrev pub give_known : Option OptionName → Option (List ℕ) → Read → Option Read
 give_known None value read = None
 give_known (Some option) value read = give_option option.takes_value option.name value read
 

@@ -3,7 +3,7 @@ use Rattle.std.specs.Prelude.{◌≡◌, ℕ, ◌≤◌, ◌<◌, List, ◌++◌
 use Rattle.std.specs.Io.KnownBytes.{Consumes, IsAtEnd}
 use Rattle.scenario.specs.Limits.{most_bytes}
 use Rattle.scenario.specs.declared.trouble.Trouble.{Trouble}
-use Rattle.scenario.specs.declared.trouble.Trouble.TheVariants.{Usage, Unreadable, TooLarge, NoThread, Line, NoVerdict, Refused}
+use Rattle.scenario.specs.declared.trouble.Trouble.TheVariants.{Usage, Unreadable, TooLarge, NoThread, Line, NoVerdict, KnownLine, Refused}
 use Rattle.files.specs.declared.fault.Fault.TheVariants.{NoMemory}
 
 -- these are the bytes that a reader has, where they are known
@@ -29,6 +29,7 @@ IsPieceTrouble TooLarge = ⊥
 IsPieceTrouble NoThread = ⊥
 IsPieceTrouble (Line number fault some) = ⊥
 IsPieceTrouble (NoVerdict line) = ⊥
+IsPieceTrouble (KnownLine fault) = ⊥
 IsPieceTrouble (Refused fault) = fault ≡ NoMemory
 
 -- the same, or the reader has more than a file may have
@@ -39,4 +40,5 @@ IsReadTrouble TooLarge left = IfSome left (λ bytes. most_bytes < length bytes)
 IsReadTrouble NoThread left = ⊥
 IsReadTrouble (Line number fault some) left = ⊥
 IsReadTrouble (NoVerdict line) left = ⊥
+IsReadTrouble (KnownLine fault) left = ⊥
 IsReadTrouble (Refused fault) left = fault ≡ NoMemory

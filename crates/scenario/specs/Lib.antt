@@ -7,6 +7,7 @@ pub mod Output
 pub mod Input
 pub mod Commands
 pub mod Command
+pub mod KnownFiles
 pub mod Watches
 pub mod Tasks
 pub mod EndsOn

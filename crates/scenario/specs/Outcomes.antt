@@ -46,6 +46,7 @@ IsUnanswered meaning text troubles.NoThread = meaning.StartsThreads
     × (meaning.fault text ≡ None)
 IsUnanswered meaning text (troubles.Line number fault some) = ⊥
 IsUnanswered meaning text (troubles.NoVerdict line) = ⊥
+IsUnanswered meaning text (troubles.KnownLine fault) = ⊥
 IsUnanswered meaning text (troubles.Refused fault) = IsRefused meaning text fault
 
 -- why a run has no answers: no memory, or no thread
@@ -56,6 +57,7 @@ IsUnstarted troubles.TooLarge = ⊥
 IsUnstarted troubles.NoThread = Unit {0}
 IsUnstarted (troubles.Line number fault some) = ⊥
 IsUnstarted (troubles.NoVerdict line) = ⊥
+IsUnstarted (troubles.KnownLine fault) = ⊥
 IsUnstarted (troubles.Refused fault) = fault ≡ NoMemory
 
 -- ---- how the code's findings stand for endings

@@ -5,11 +5,24 @@ use Rattle.clap.specs.Walk.{is_empty}
 use Rattle.scenario.specs.declared.task.Task.{Task}
 use Rattle.watch.specs.declared.trace.Verdict.{Verdict}
 use Rattle.watch_report.specs.declared.filter.Filter.{Filter}
+use Rattle.watch_report.specs.declared.options.Form.TheVariants.{Json}
+use Rattle.watch_report.specs.declared.options.Options.{Options}
 use Rattle.watch_report.specs.Filters.{kind_of}
 use Rattle.scenario.specs.CommandLine.{Asked, svsim}
 
 abbrev pub asking : Task → List ℕ → Asked
-asking task file = record { task = task; file = file }
+asking task file = record { task = task; file = file; known = None }
+
+-- with a list of what is known
+abbrev pub knowing : List ℕ → Asked → Asked
+knowing list ask = record ask { known = Some list }
+
+-- in JSON, and so many at most
+abbrev pub in_json : Options → Options
+in_json options = record options { form = Json }
+
+abbrev pub at_most : ℕ → Options → Options
+at_most n options = record options { most = Some n }
 
 -- the verdicts of a hart, on a page and of a kind, of those that the filter takes
 abbrev pub of_hart : ℕ → Filter → Filter

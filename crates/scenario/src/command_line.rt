@@ -1,17 +1,19 @@
 //! The words of the command line, and what is done for them.
-ghost use Rattle.std.specs.Prelude.{◌≡◌, ◌⊎◌, [], Option, IfOk, IfErr, map, option_map, string_bytes};
+ghost use Rattle.std.specs.Prelude.{◌≡◌, ◌⊎◌, [], IfOk, IfErr, map, option_map, string_bytes};
 ghost use Rattle.std.specs.Fn.{FnOnceReturnsAt};
 ghost use Rattle.std.specs.Io.KnownBytes.{Keeps};
 ghost use Rattle.std.specs.IoError.{error_kind};
 ghost use Rattle.scenario.specs.declared.command_line.NoWords.TheVariants.{NoMemory};
 ghost use Rattle.clap.specs.Words.{first_value, found_of};
 ghost use Rattle.scenario.specs.Command.{Reports, misused, no_memory};
-ghost use Rattle.scenario.specs.EndsOn.{EndsOn};
+ghost use Rattle.scenario.specs.EndsOn.{EndsAsked, EndsOn, files_by};
 ghost use Rattle.scenario.specs.Shown.{EndsUnasked, shown, shown_in};
 ghost use Rattle.scenario.specs.CommandLine.{AsksFor, ask_view, asked, asked_in, asked_of, no_words_by};
+ghost use Rattle.watch_report.specs.KnownLists.{known_in};
 
 use crate::commands::command_of;
 use crate::explain_program::explain_command;
+use crate::known_file::{no_list, read_list};
 use crate::live_program::live_command;
 use crate::output::write_whole;
 use crate::program::{DONE, command, report};
@@ -30,12 +32,15 @@ use std::io::{Read, Write};
 use std::sync::Wait;
 use std::thread::Threads;
 use thiserror::Error;
+use watch_report::KnownList;
 
 /// What is done, and the name of the file with which it is.
 #[derive(Clone, Copy, Debug)]
 pub struct Ask<'a> {
     pub task: Task,
     pub file: &'a str,
+    /// The name of a list of what is known to be by design, of `watch` alone.
+    pub known: Option<&'a str>,
 }
 
 /// Why the words that the program was started with are not known.
@@ -80,8 +85,13 @@ fn asked_of<'a>(matches: &ArgMatches<'a>) -> Option<Ask<'a>>
     let Some(command) = command_of(word) else {
         return None;
     };
-    match Given::new(matches).task(command) {
-        Some(task) => Some(Ask { task, file }),
+    let given = Given::new(matches);
+    match given.task(command) {
+        Some(task) => Some(Ask {
+            task,
+            file,
+            known: given.known,
+        }),
         None => None,
     }
 }
@@ -106,8 +116,8 @@ fn look_up<'a>(alloc: Global, words: &'a [String]) -> Result<Option<Ask<'a>>, Al
 
 /// What the words ask for, of which the first is the program's name: a command that is known and a
 /// FILE, and of `explain` a LINE, a decimal number from 1. `watch` and `explain` take the options
-/// `--hart H`, `--page VA` and `--kind KIND`, and `watch` takes `--all` or `--quiet`. `--` ends the
-/// options. Refused with `Usage` if they ask for nothing, and with `NoMemory` if memory runs out.
+/// `--hart H`, `--page VA` and `--kind KIND`, and `watch` takes `--all` or `--quiet`, `--json`,
+/// `--max N`, a decimal number, and `--known FILE`. `--` ends the options. Refused with `Usage` if they ask for nothing, and with `NoMemory` if memory runs out.
 pub fn ask_of<'a>(alloc: Global, words: &'a [String]) -> Result<Ask<'a>, Trouble>
     ensures { AsksFor (map string_bytes words.now) result }
 {
@@ -119,17 +129,18 @@ pub fn ask_of<'a>(alloc: Global, words: &'a [String]) -> Result<Ask<'a>, Trouble
 }
 
 /// Does what was asked for on the file that `input` reads; without one the file could not be
-/// opened.
+/// opened. `known` is for `watch` alone.
 fn on_file<T: Threads + Wait + Sync, R: Read + Drop, W: Write, E: Write, G: Gate + Sync>(
     rt: &T,
     alloc: Global,
     ask: Ask<'_>,
+    known: KnownList<'_>,
     input: Option<R>,
     out: &mut W,
     err: &mut E,
     gate: &G,
 ) -> u8
-    ensures { EndsOn R.remaining ask.entry.task ask.entry.file.now input result
+    ensures { EndsOn R.remaining ask.entry.task (known_in known.entry) ask.entry.file.now input result
         (W.contents out.old) (W.contents out.new) (E.contents err.old) (E.contents err.new) }
 {
     let Some(mut reader) = input else {
@@ -138,12 +149,53 @@ fn on_file<T: Threads + Wait + Sync, R: Read + Drop, W: Write, E: Write, G: Gate
     match ask.task {
         Task::Plain(which) => command(alloc, which, ask.file, &mut reader, out, err),
         Task::Live => live_command(rt, alloc, ask.file, &mut reader, out, err, gate),
-        Task::Watch(detail, filter) => {
-            watch_command_with(alloc, detail, filter, ask.file, reader, out, err)
+        Task::Watch(options) => {
+            watch_command_with(alloc, options, known, ask.file, reader, out, err)
         }
         Task::Explain(filter, line) => {
             explain_command(alloc, filter, line, ask.file, reader, out, err)
         }
+    }
+}
+
+/// Does what was asked for on the file that `reader_of` opens. If a list is asked for, it is read
+/// before that, from what `list_of` opens, and without it the file is not opened.
+fn on_ask<
+    T: Threads + Wait + Sync,
+    R: Read + Drop,
+    L: Read + Drop,
+    W: Write,
+    E: Write,
+    O: FnOnce(&str) -> Option<R>,
+    P: FnOnce(&str) -> Option<L>,
+    G: Gate + Sync,
+>(
+    rt: &T,
+    alloc: Global,
+    ask: Ask<'_>,
+    reader_of: O,
+    list_of: P,
+    out: &mut W,
+    err: &mut E,
+    gate: &G,
+) -> u8
+    requires reader { O.IsAlwaysCallable reader_of }
+    requires list { P.IsAlwaysCallable list_of }
+    ensures { EndsAsked (files_by (FnOnceReturnsAt O.FnOnce reader_of) R.remaining)
+        (files_by (FnOnceReturnsAt P.FnOnce list_of) L.remaining) (ask_view ask.entry) result
+        (W.contents out.old) (W.contents out.new) (E.contents err.old) (E.contents err.new) }
+{
+    let Some(name) = ask.known else {
+        let known = no_list(alloc);
+        return on_file(rt, alloc, ask, known, reader_of(ask.file), out, err, gate);
+    };
+    match read_list(alloc, list_of(name)) {
+        Ok(entries) => {
+            let file = name.as_bytes();
+            let known = KnownList { file, entries };
+            on_file(rt, alloc, ask, known, reader_of(ask.file), out, err, gate)
+        }
+        Err(trouble) => report(alloc, name, &trouble, err),
     }
 }
 
@@ -168,31 +220,37 @@ fn answer_unasked<W: Write, E: Write>(
 
 /// The whole of the program: does what the words ask for on the file that `reader_of` opens, and
 /// answers the status. It is called with the name of the file, once the words are known to ask for
-/// one. Words that ask for help or the version get it on `out` (`shown_of`), with status 0. Others
+/// one. With `--known` the list that `list_of` opens is read first: one that is not opened or not
+/// read, and a wrong line of it, are reported with the name of the list, and the file is not opened
+/// then. Words that ask for help or the version get it on `out` (`shown_of`), with status 0. Others
 /// that ask for nothing get the line `svsim: usage: svsim COMMAND FILE` and status 2, a file that is
 /// not opened ends as one that can't be read. Memory may run out before the words are read. Threads
 /// are started, and `gate` is asked, by `live` alone.
 pub fn answer_words<
     T: Threads + Wait + Sync,
     R: Read + Drop,
+    L: Read + Drop,
     W: Write,
     E: Write,
     O: FnOnce(&str) -> Option<R>,
+    P: FnOnce(&str) -> Option<L>,
     G: Gate + Sync,
 >(
     rt: &T,
     alloc: Global,
     words: Result<Vec<String>, NoWords>,
     reader_of: O,
+    list_of: P,
     out: &mut W,
     err: &mut E,
     gate: &G,
 ) -> u8
-    requires { O.IsAlwaysCallable reader_of }
-    ensures asked { IfOk (asked_in words) (λ ask. ((input : Option R)
-        × FnOnceReturnsAt O.FnOnce reader_of ask.file input
-        × EndsOn R.remaining ask.task ask.file input result
-        (W.contents out.old) (W.contents out.new) (E.contents err.old) (E.contents err.new))
+    requires reader { O.IsAlwaysCallable reader_of }
+    requires list { P.IsAlwaysCallable list_of }
+    ensures asked { IfOk (asked_in words) (λ ask.
+        EndsAsked (files_by (FnOnceReturnsAt O.FnOnce reader_of) R.remaining)
+        (files_by (FnOnceReturnsAt P.FnOnce list_of) L.remaining) ask result
+        (W.contents out.old) (W.contents out.new) (E.contents err.old) (E.contents err.new)
         ⊎ (Reports [] no_memory result (E.contents err.old) (E.contents err.new)
         × Keeps (W.contents out.old) (W.contents out.new))) }
     ensures unasked { IfErr (asked_in words) (λ ending. EndsUnasked (shown_in words) ending result
@@ -204,7 +262,7 @@ pub fn answer_words<
         Err(NoWords::NoMemory) => return report(alloc, "", &Trouble::Refused(Fault::NoMemory), err),
     };
     match look_up(alloc, words.as_slice()) {
-        Ok(Some(ask)) => on_file(rt, alloc, ask, reader_of(ask.file), out, err, gate),
+        Ok(Some(ask)) => on_ask(rt, alloc, ask, reader_of, list_of, out, err, gate),
         Ok(None) => answer_unasked(alloc, words.as_slice(), out, err),
         Err(_) => report(alloc, "", &Trouble::Refused(Fault::NoMemory), err),
     }

@@ -1,8 +1,9 @@
 //! Laws of the formats: each call makes no step, and its clauses hold of the definitions alone.
 ghost use Rattle.std.specs.Prelude.{[], codes, false, true};
 ghost use Rattle.steps.specs.declared.fault.StepFault.TheVariants.{NotStep};
-ghost use Rattle.scenario.specs.Command.{done, IsTold, misused, no_memory, no_thread, output_failed, refused, too_large, unreadable, warned, wrong_line, no_verdict};
+ghost use Rattle.scenario.specs.Command.{done, IsTold, misused, no_memory, no_thread, output_failed, refused, too_large, unreadable, warned, wrong_entry, wrong_line, no_verdict};
 ghost use Rattle.watch_report.specs.declared.line_fault.LineReason.TheVariants.{NoTrace, Unaligned};
+ghost use Rattle.watch_report.specs.declared.known_fault.KnownReason.TheVariants.{NoOwner};
 ghost use Rattle.watch_report.specs.LineFaults.{fault_at};
 ghost use Rattle.files.specs.Faults.{bad_layout, not_toml, too_many, wrong_key, wrong_script, wrong_step};
 
@@ -28,5 +29,7 @@ pub fn worked_endings()
     ensures wrong_line_after_a_verdict { IsTold (wrong_line 1 (fault_at 1 NoTrace) true) 1
         (codes "f:1:1: no trace, which begins with watch 1 HARTS SCHEME (a scenario is for svsim run)\n") }
     ensures no_verdict { IsTold (no_verdict 12) 1 (codes "f:12: no such verdict\n") }
+    ensures wrong_entry { IsTold (wrong_entry (record { line = 12; reason = NoOwner })) 3
+        (codes "f:12: no owner: an entry begins with user or kernel\n") }
     ensures no_thread { IsTold no_thread 5 (codes "svsim: no thread\n") }
 {}

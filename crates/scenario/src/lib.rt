@@ -15,6 +15,7 @@ mod finding;
 mod format_laws;
 mod input;
 mod inspections;
+mod known_file;
 mod limits;
 mod live_program;
 mod live_texts;
@@ -59,8 +60,10 @@ pub use task::Task;
 pub use texts::{run_text, walk_text};
 pub use trouble::Trouble;
 pub use watch_program::{watch_command, watch_command_with};
-pub use watch_report::{Detail, Filter, Kind, read_filter};
+pub use watch_report::{
+    Detail, Filter, Form, Kind, Known, KnownFault, KnownList, Options, read_filter,
+};
 pub use word_laws::{
-    words_are_read, worked_explanations, worked_filters, worked_options, worked_refusals,
-    worked_texts, worked_words,
+    words_are_read, worked_explanations, worked_filters, worked_forms, worked_options,
+    worked_refusals, worked_texts, worked_words, worked_wrong_forms,
 };

@@ -51,7 +51,9 @@ fn status(trouble: &Trouble) -> u8
         Trouble::NoThread | Trouble::Refused(Fault::NoMemory) => NO_MEMORY,
         Trouble::Line { warned: true, .. } => WARNED,
         Trouble::NoVerdict { .. } => NO_VERDICT,
-        Trouble::Line { warned: false, .. } | Trouble::Refused(_) => REFUSED,
+        Trouble::Line { warned: false, .. } | Trouble::KnownLine(_) | Trouble::Refused(_) => {
+            REFUSED
+        }
     }
 }
 
@@ -65,6 +67,7 @@ fn error_text(alloc: Global, file: &str, trouble: &Trouble) -> Result<String, Al
         Trouble::Unreadable => writeln!(text, "svsim: cannot read {file}")?,
         Trouble::Line { number, fault, .. } => writeln!(text, "{file}:{number}:{fault}")?,
         Trouble::NoVerdict { line } => writeln!(text, "{file}:{line}: no such verdict")?,
+        Trouble::KnownLine(fault) => writeln!(text, "{file}:{fault}")?,
         Trouble::Usage | Trouble::TooLarge | Trouble::NoThread | Trouble::Refused(_) => {
             writeln!(text, "svsim: {trouble}")?
         }

@@ -91,13 +91,18 @@ counts at the end. TRACE is a file, or - for standard input.
 
   svsim watch examples/watch/left-out-hart.trace
 
-  --all        prints a line for each verdict in place of the causes
-  --quiet      prints the last line alone, which counts the verdicts
-  --hart H     takes the verdicts of one hart alone, 0 to 63
-  --page VA    takes those of pages that VA lies in, in hexadecimal without 0x
-  --kind KIND  takes those of one kind: claim, free, reuse, use, or kernel-claim and so on
+  --all         prints a line for each verdict in place of the causes
+  --quiet       prints the last line alone, which counts the verdicts
+  --json        prints an object of JSON on each line
+  --max N       prints the first N verdicts or causes at most; all are counted
+  --known FILE  leaves out the findings that FILE lists as by design, and counts them at the end
+  --hart H      takes the verdicts of one hart alone, 0 to 63
+  --page VA     takes those of pages that VA lies in, in hexadecimal without 0x
+  --kind KIND   takes those of one kind: claim, free, reuse, use, or kernel-claim and so on
 
-What is counted, and the status, is of the verdicts that are taken.
+What is counted, and the status, is of the verdicts that are taken. A line of FILE is OWNER FIRST REASON [START SIZE] [@NOTE]: user or
+kernel; the first verdict of a finding; no-flush, no-fence, other-hart, other-asid, other-page or not-done; addresses of which one lies in
+the page, in hexadecimal; how the note of the record begins that made the page stale. - is any verdict or reason. A line that begins with # is a comment.
 docs/YOUR-KERNEL.md tells how to get a trace. Status 0: no verdict. 1: some. 3: a wrong line, and no verdict before it.
 ";
 

@@ -76,6 +76,7 @@ pub fn start<T: Threads + Wait + Sync>(rt: &HostRuntime, threads: &T) -> u8 {
             };
             Some(Progress::new(source, rt, terminal))
         },
+        |name| fs::open(rt, name).ok(),
         &mut out,
         &mut err,
         &OpenGate,

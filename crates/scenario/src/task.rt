@@ -3,11 +3,11 @@ ghost use Rattle.std.specs.Prelude.{◌≡◌, option_map};
 ghost use Rattle.std.specs.Char.{is_ascii_digit};
 ghost use Rattle.std.specs.List.{list_all};
 ghost use Rattle.clap.specs.Words.{first_value, found_of};
-ghost use Rattle.scenario.specs.Tasks.{detail_of, explain_in, filter_of, has_none, is_decimal, is_set, line_in, line_of, options_of, options_view, task_of, watch_in};
+ghost use Rattle.scenario.specs.Tasks.{detail_of, explain_in, filter_of, form_of, has_none, has_none_of_watch, is_decimal, is_set, line_in, line_of, number_in, options_given, options_view, task_of, watch_at_most, watch_in};
 
 use crate::commands::{Command, Which};
 use clap::ArgMatches;
-use watch_report::{Detail, Filter, read_filter};
+use watch_report::{Detail, Filter, Form, Options, read_filter};
 
 /// What is done with a file.
 #[derive(Clone, Copy, PartialEq, Eq, Debug)]
@@ -16,8 +16,8 @@ pub enum Task {
     Plain(Which),
     /// Runs its scripts, each on a thread of its own.
     Live,
-    /// Prints this of the verdicts of a trace that the filter takes.
-    Watch(Detail, Filter),
+    /// Prints this of the verdicts of a trace.
+    Watch(Options),
     /// Tells the first verdict at this line of a trace that the filter takes.
     Explain(Filter, u64),
 }
@@ -27,9 +27,12 @@ pub enum Task {
 pub(crate) struct Given<'a> {
     all: bool,
     quiet: bool,
+    json: bool,
     hart: Option<&'a str>,
     page: Option<&'a str>,
     kind: Option<&'a str>,
+    max: Option<&'a str>,
+    pub(crate) known: Option<&'a str>,
     line: Option<&'a str>,
 }
 
@@ -65,14 +68,24 @@ fn is_decimal(text: &str) -> bool
     !text.is_empty() && are_digits(text.as_bytes())
 }
 
-/// The number of a line, from 1 on, in decimal digits.
+/// A decimal number that has room in 64 bits.
 fn read_number(text: &str) -> Option<u64>
-    ensures { result ≡ line_in text.now }
+    ensures { result ≡ number_in text.now }
 {
     if !is_decimal(text) {
         return None;
     }
     let Ok(number) = u64::from_str_radix(text, 10) else {
+        return None;
+    };
+    Some(number)
+}
+
+/// The number of a line, from 1 on.
+fn read_line_number(text: &str) -> Option<u64>
+    ensures { result ≡ line_in text.now }
+{
+    let Some(number) = read_number(text) else {
         return None;
     };
     if number == 0 {
@@ -83,23 +96,32 @@ fn read_number(text: &str) -> Option<u64>
 
 impl<'a> Given<'a> {
     pub(crate) fn new(matches: &ArgMatches<'a>) -> Given<'a>
-        ensures { options_view result ≡ options_of (first_value (found_of matches.now)) }
+        ensures { options_view result ≡ options_given (first_value (found_of matches.now)) }
     {
         Given {
             all: is_set(matches.get_str("all")),
             quiet: is_set(matches.get_str("quiet")),
+            json: is_set(matches.get_str("json")),
             hart: matches.get_str("hart"),
             page: matches.get_str("page"),
             kind: matches.get_str("kind"),
+            max: matches.get_str("max"),
+            known: matches.get_str("known"),
             line: matches.get_str("LINE"),
         }
+    }
+
+    /// None of the options that `watch` alone takes.
+    fn has_none_of_watch(&self) -> bool
+        ensures { result ≡ has_none_of_watch (options_view self.now) }
+    {
+        !self.all && !self.quiet && !self.json && self.max.is_none() && self.known.is_none()
     }
 
     fn has_none(&self) -> bool
         ensures { result ≡ has_none (options_view self.now) }
     {
-        !self.all
-            && !self.quiet
+        self.has_none_of_watch()
             && self.hart.is_none()
             && self.page.is_none()
             && self.kind.is_none()
@@ -132,13 +154,37 @@ impl<'a> Given<'a> {
         )
     }
 
+    fn form(&self) -> Form
+        ensures { result ≡ form_of (options_view self.now) }
+    {
+        if self.json { Form::Json } else { Form::Text }
+    }
+
     fn line(&self) -> Option<u64>
         ensures { result ≡ line_of (options_view self.now) }
     {
         match self.line {
-            Some(text) => read_number(text),
+            Some(text) => read_line_number(text),
             None => None,
         }
+    }
+
+    /// `watch` that tells so many at most.
+    fn watch_at_most(&self, most: Option<u64>) -> Option<Task>
+        ensures { result ≡ watch_at_most (options_view self.now) most }
+    {
+        let Some(detail) = self.detail() else {
+            return None;
+        };
+        let Some(filter) = self.filter() else {
+            return None;
+        };
+        Some(Task::Watch(Options {
+            detail,
+            filter,
+            form: self.form(),
+            most,
+        }))
     }
 
     /// `watch` takes all options, and no LINE.
@@ -148,20 +194,20 @@ impl<'a> Given<'a> {
         if self.line.is_some() {
             return None;
         }
-        let Some(detail) = self.detail() else {
+        let Some(text) = self.max else {
+            return self.watch_at_most(None);
+        };
+        let Some(most) = read_number(text) else {
             return None;
         };
-        let Some(filter) = self.filter() else {
-            return None;
-        };
-        Some(Task::Watch(detail, filter))
+        self.watch_at_most(Some(most))
     }
 
     /// `explain` wants a LINE, and takes the options of the filter.
     fn explain(&self) -> Option<Task>
         ensures { result ≡ explain_in (options_view self.now) }
     {
-        if self.all || self.quiet {
+        if !self.has_none_of_watch() {
             return None;
         }
         let Some(filter) = self.filter() else {

@@ -8,7 +8,7 @@ use files::Fault;
 use std::alloc::AllocError;
 use std::error::Error;
 use std::fmt;
-use watch_report::LineFault;
+use watch_report::{KnownFault, LineFault};
 
 /// Why a command was not done. `Display` is the text that `svsim` prints, without the file's name.
 #[derive(Debug, Drop)]
@@ -29,6 +29,8 @@ pub enum Trouble {
     NoVerdict {
         line: u64,
     },
+    /// A wrong line of the list of what is known to be by design.
+    KnownLine(KnownFault),
     Refused(Fault),
 }
 
@@ -47,6 +49,7 @@ impl fmt::Display for Trouble {
             Trouble::NoThread => f.write_str("no thread"),
             Trouble::Line { number, fault, .. } => write!(f, "FILE:{number}:{fault}"),
             Trouble::NoVerdict { line } => write!(f, "FILE:{line}: no such verdict"),
+            Trouble::KnownLine(fault) => write!(f, "FILE:{fault}"),
             Trouble::Refused(fault) => write!(f, "{fault}"),
         }
     }

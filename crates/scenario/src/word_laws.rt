@@ -8,9 +8,10 @@ ghost use Rattle.scenario.specs.declared.commands.Which.TheVariants.{Draw, Run, 
 ghost use Rattle.watch_report.specs.declared.detail.Detail.TheVariants.{Causes, Counts, Verdicts};
 ghost use Rattle.watch.specs.declared.trace.Verdict.TheVariants.{Free, Used};
 ghost use Rattle.watch_report.specs.Filters.{no_filter};
+ghost use Rattle.watch_report.specs.Reports.{options_of};
 ghost use Rattle.scenario.specs.CommandLine.{asked, asked_by, asked_in_words, is_option};
 ghost use Rattle.scenario.specs.Tasks.{no_options, with_line};
-ghost use Rattle.scenario.specs.WorkedWords.{asking, of_hart, of_kind, of_page, text_taken};
+ghost use Rattle.scenario.specs.WorkedWords.{asking, at_most, in_json, knowing, of_hart, of_kind, of_page, text_taken};
 
 /// What `clap` takes is what is read off the words, one after the other (`asked_in_words`). Of two or
 /// three words that are no options, whatever their bytes are, it takes just these.
@@ -32,7 +33,7 @@ pub fn worked_words()
     ensures two { asked (codes "svsim" ∷ codes "walk" ∷ codes "f" ∷ [])
         ≡ Some (asking (Plain Walk) (codes "f")) }
     ensures watch { asked (codes "svsim" ∷ codes "watch" ∷ codes "-" ∷ [])
-        ≡ Some (asking (Watch Causes no_filter) (codes "-")) }
+        ≡ Some (asking (Watch (options_of Causes no_filter)) (codes "-")) }
     ensures watch_alone { asked (codes "svsim" ∷ codes "watch" ∷ []) ≡ None }
     ensures three { asked (codes "svsim" ∷ codes "walk" ∷ codes "f" ∷ codes "g" ∷ []) ≡ None }
     ensures four { asked (codes "svsim" ∷ codes "run" ∷ codes "--" ∷ codes "f" ∷ codes "g" ∷ [])
@@ -67,11 +68,11 @@ pub fn worked_options()
     ensures short_version { asked (codes "svsim" ∷ codes "-V" ∷ codes "run" ∷ codes "f" ∷ [])
         ≡ None }
     ensures all { asked (codes "svsim" ∷ codes "watch" ∷ codes "--all" ∷ codes "t" ∷ [])
-        ≡ Some (asking (Watch Verdicts no_filter) (codes "t")) }
+        ≡ Some (asking (Watch (options_of Verdicts no_filter)) (codes "t")) }
     ensures quiet { asked (codes "svsim" ∷ codes "watch" ∷ codes "t" ∷ codes "--quiet" ∷ [])
-        ≡ Some (asking (Watch Counts no_filter) (codes "t")) }
+        ≡ Some (asking (Watch (options_of Counts no_filter)) (codes "t")) }
     ensures all_first { asked (codes "svsim" ∷ codes "--all" ∷ codes "watch" ∷ codes "t" ∷ [])
-        ≡ Some (asking (Watch Verdicts no_filter) (codes "t")) }
+        ≡ Some (asking (Watch (options_of Verdicts no_filter)) (codes "t")) }
     ensures all_twice { asked (codes "svsim" ∷ codes "watch" ∷ codes "--all" ∷ codes "--all"
         ∷ codes "t" ∷ []) ≡ None }
     ensures all_and_quiet { asked (codes "svsim" ∷ codes "watch" ∷ codes "--all" ∷ codes "--quiet"
@@ -79,7 +80,7 @@ pub fn worked_options()
     ensures all_of_run { asked (codes "svsim" ∷ codes "run" ∷ codes "--all" ∷ codes "f" ∷ [])
         ≡ None }
     ensures all_as_file { asked (codes "svsim" ∷ codes "watch" ∷ codes "--" ∷ codes "--all" ∷ [])
-        ≡ Some (asking (Watch Causes no_filter) (codes "--all")) }
+        ≡ Some (asking (Watch (options_of Causes no_filter)) (codes "--all")) }
     ensures all_with_value { asked (codes "svsim" ∷ codes "watch" ∷ codes "--all=yes" ∷ codes "t" ∷ [])
         ≡ None }
     ensures part_of_all { asked (codes "svsim" ∷ codes "watch" ∷ codes "--al" ∷ codes "t" ∷ [])
@@ -90,33 +91,33 @@ pub fn worked_options()
 pub fn worked_filters()
     ensures hart { asked (codes "svsim" ∷ codes "watch" ∷ codes "--hart" ∷ codes "1" ∷ codes "t"
         ∷ [])
-        ≡ Some (asking (Watch Causes (of_hart 1 no_filter)) (codes "t")) }
+        ≡ Some (asking (Watch (options_of Causes (of_hart 1 no_filter))) (codes "t")) }
     ensures hart_with_equals { asked (codes "svsim" ∷ codes "watch" ∷ codes "t" ∷ codes "--hart=1"
         ∷ [])
-        ≡ Some (asking (Watch Causes (of_hart 1 no_filter)) (codes "t")) }
+        ≡ Some (asking (Watch (options_of Causes (of_hart 1 no_filter))) (codes "t")) }
     ensures hart_first { asked (codes "svsim" ∷ codes "--hart" ∷ codes "1" ∷ codes "watch"
         ∷ codes "t" ∷ [])
-        ≡ Some (asking (Watch Causes (of_hart 1 no_filter)) (codes "t")) }
+        ≡ Some (asking (Watch (options_of Causes (of_hart 1 no_filter))) (codes "t")) }
     ensures hart_between { asked (codes "svsim" ∷ codes "watch" ∷ codes "--hart" ∷ codes "1"
         ∷ codes "--" ∷ codes "t" ∷ [])
-        ≡ Some (asking (Watch Causes (of_hart 1 no_filter)) (codes "t")) }
+        ≡ Some (asking (Watch (options_of Causes (of_hart 1 no_filter))) (codes "t")) }
     ensures hart_and_all { asked (codes "svsim" ∷ codes "watch" ∷ codes "--all" ∷ codes "t"
         ∷ codes "--hart=1" ∷ [])
-        ≡ Some (asking (Watch Verdicts (of_hart 1 no_filter)) (codes "t")) }
+        ≡ Some (asking (Watch (options_of Verdicts (of_hart 1 no_filter))) (codes "t")) }
     ensures hart_and_quiet { asked (codes "svsim" ∷ codes "watch" ∷ codes "--hart" ∷ codes "1"
         ∷ codes "--quiet" ∷ codes "t" ∷ [])
-        ≡ Some (asking (Watch Counts (of_hart 1 no_filter)) (codes "t")) }
+        ≡ Some (asking (Watch (options_of Counts (of_hart 1 no_filter))) (codes "t")) }
     ensures hart_as_file { asked (codes "svsim" ∷ codes "watch" ∷ codes "--" ∷ codes "--hart" ∷ [])
-        ≡ Some (asking (Watch Causes no_filter) (codes "--hart")) }
+        ≡ Some (asking (Watch (options_of Causes no_filter)) (codes "--hart")) }
     ensures page { asked (codes "svsim" ∷ codes "watch" ∷ codes "--page" ∷ codes "a000"
         ∷ codes "t" ∷ [])
-        ≡ Some (asking (Watch Causes (of_page 40960 no_filter)) (codes "t")) }
+        ≡ Some (asking (Watch (options_of Causes (of_page 40960 no_filter))) (codes "t")) }
     ensures kind { asked (codes "svsim" ∷ codes "watch" ∷ codes "--kind" ∷ codes "kernel-free"
         ∷ codes "t" ∷ [])
-        ≡ Some (asking (Watch Causes (of_kind true Free no_filter)) (codes "t")) }
+        ≡ Some (asking (Watch (options_of Causes (of_kind true Free no_filter))) (codes "t")) }
     ensures all_three { asked (codes "svsim" ∷ codes "watch" ∷ codes "--kind=free" ∷ codes "t"
         ∷ codes "--page=0" ∷ codes "--hart" ∷ codes "63" ∷ [])
-        ≡ Some (asking (Watch Causes (of_hart 63 (of_page 0 (of_kind false Free no_filter))))
+        ≡ Some (asking (Watch (options_of Causes (of_hart 63 (of_page 0 (of_kind false Free no_filter)))))
         (codes "t")) }
 {}
 
@@ -156,6 +157,130 @@ pub fn worked_refusals()
         ∷ []) ≡ None }
     ensures hart_takes_the_file { asked (codes "svsim" ∷ codes "watch" ∷ codes "--hart"
         ∷ codes "t" ∷ []) ≡ None }
+{}
+
+/// The form of a report, how many are told at most, and the list of what is known.
+pub fn worked_forms()
+    ensures json { asked (codes "svsim" ∷ codes "watch" ∷ codes "--json" ∷ codes "t" ∷ [])
+        ≡ Some (asking (Watch (in_json (options_of Causes no_filter))) (codes "t")) }
+    ensures json_first { asked (codes "svsim" ∷ codes "--json" ∷ codes "watch" ∷ codes "t" ∷ [])
+        ≡ Some (asking (Watch (in_json (options_of Causes no_filter))) (codes "t")) }
+    ensures json_and_all { asked (codes "svsim" ∷ codes "watch" ∷ codes "--all" ∷ codes "t"
+        ∷ codes "--json" ∷ [])
+        ≡ Some (asking (Watch (in_json (options_of Verdicts no_filter))) (codes "t")) }
+    ensures json_and_quiet { asked (codes "svsim" ∷ codes "watch" ∷ codes "--json" ∷ codes "--quiet"
+        ∷ codes "t" ∷ [])
+        ≡ Some (asking (Watch (in_json (options_of Counts no_filter))) (codes "t")) }
+    ensures json_as_file { asked (codes "svsim" ∷ codes "watch" ∷ codes "--" ∷ codes "--json" ∷ [])
+        ≡ Some (asking (Watch (options_of Causes no_filter)) (codes "--json")) }
+    ensures max { asked (codes "svsim" ∷ codes "watch" ∷ codes "--max" ∷ codes "3" ∷ codes "t" ∷ [])
+        ≡ Some (asking (Watch (at_most 3 (options_of Causes no_filter))) (codes "t")) }
+    ensures max_with_equals { asked (codes "svsim" ∷ codes "watch" ∷ codes "t" ∷ codes "--max=3"
+        ∷ [])
+        ≡ Some (asking (Watch (at_most 3 (options_of Causes no_filter))) (codes "t")) }
+    ensures max_first { asked (codes "svsim" ∷ codes "--max" ∷ codes "3" ∷ codes "watch" ∷ codes "t"
+        ∷ [])
+        ≡ Some (asking (Watch (at_most 3 (options_of Causes no_filter))) (codes "t")) }
+    ensures max_zero { asked (codes "svsim" ∷ codes "watch" ∷ codes "--max" ∷ codes "0" ∷ codes "t"
+        ∷ [])
+        ≡ Some (asking (Watch (at_most 0 (options_of Causes no_filter))) (codes "t")) }
+    ensures max_zeros { asked (codes "svsim" ∷ codes "watch" ∷ codes "--max" ∷ codes "0012"
+        ∷ codes "t" ∷ [])
+        ≡ Some (asking (Watch (at_most 12 (options_of Causes no_filter))) (codes "t")) }
+    ensures max_greatest { asked (codes "svsim" ∷ codes "watch" ∷ codes "--max"
+        ∷ codes "18446744073709551615" ∷ codes "t" ∷ [])
+        ≡ Some (asking (Watch (at_most 18446744073709551615 (options_of Causes no_filter)))
+        (codes "t")) }
+    ensures max_and_all { asked (codes "svsim" ∷ codes "watch" ∷ codes "--all" ∷ codes "--max"
+        ∷ codes "1" ∷ codes "t" ∷ [])
+        ≡ Some (asking (Watch (at_most 1 (options_of Verdicts no_filter))) (codes "t")) }
+    ensures max_and_quiet { asked (codes "svsim" ∷ codes "watch" ∷ codes "--quiet" ∷ codes "t"
+        ∷ codes "--max=1" ∷ [])
+        ≡ Some (asking (Watch (at_most 1 (options_of Counts no_filter))) (codes "t")) }
+    ensures known { asked (codes "svsim" ∷ codes "watch" ∷ codes "--known" ∷ codes "l" ∷ codes "t"
+        ∷ [])
+        ≡ Some (knowing (codes "l") (asking (Watch (options_of Causes no_filter)) (codes "t"))) }
+    ensures known_with_equals { asked (codes "svsim" ∷ codes "watch" ∷ codes "t" ∷ codes "--known=l"
+        ∷ [])
+        ≡ Some (knowing (codes "l") (asking (Watch (options_of Causes no_filter)) (codes "t"))) }
+    ensures known_first { asked (codes "svsim" ∷ codes "--known" ∷ codes "l" ∷ codes "watch"
+        ∷ codes "t" ∷ [])
+        ≡ Some (knowing (codes "l") (asking (Watch (options_of Causes no_filter)) (codes "t"))) }
+    ensures known_and_all { asked (codes "svsim" ∷ codes "watch" ∷ codes "--known" ∷ codes "l"
+        ∷ codes "--all" ∷ codes "t" ∷ [])
+        ≡ Some (knowing (codes "l") (asking (Watch (options_of Verdicts no_filter)) (codes "t"))) }
+    ensures known_and_quiet { asked (codes "svsim" ∷ codes "watch" ∷ codes "--known=l"
+        ∷ codes "--quiet" ∷ codes "t" ∷ [])
+        ≡ Some (knowing (codes "l") (asking (Watch (options_of Counts no_filter)) (codes "t"))) }
+    ensures known_empty { asked (codes "svsim" ∷ codes "watch" ∷ codes "--known=" ∷ codes "t" ∷ [])
+        ≡ Some (knowing [] (asking (Watch (options_of Causes no_filter)) (codes "t"))) }
+    ensures known_dash { asked (codes "svsim" ∷ codes "watch" ∷ codes "--known" ∷ codes "-"
+        ∷ codes "t" ∷ [])
+        ≡ Some (knowing (codes "-") (asking (Watch (options_of Causes no_filter)) (codes "t"))) }
+    ensures known_with_two_equals { asked (codes "svsim" ∷ codes "watch" ∷ codes "--known=a=b"
+        ∷ codes "t" ∷ [])
+        ≡ Some (knowing (codes "a=b") (asking (Watch (options_of Causes no_filter)) (codes "t"))) }
+    ensures all_together { asked (codes "svsim" ∷ codes "watch" ∷ codes "--known" ∷ codes "l"
+        ∷ codes "--json" ∷ codes "--max" ∷ codes "2" ∷ codes "--all" ∷ codes "--hart" ∷ codes "1"
+        ∷ codes "t" ∷ [])
+        ≡ Some (knowing (codes "l") (asking (Watch (in_json (at_most 2 (options_of Verdicts
+        (of_hart 1 no_filter))))) (codes "t"))) }
+{}
+
+/// The same, where they are refused.
+pub fn worked_wrong_forms()
+    ensures json_twice { asked (codes "svsim" ∷ codes "watch" ∷ codes "--json" ∷ codes "--json"
+        ∷ codes "t" ∷ []) ≡ None }
+    ensures json_with_value { asked (codes "svsim" ∷ codes "watch" ∷ codes "--json=true" ∷ codes "t"
+        ∷ []) ≡ None }
+    ensures part_of_json { asked (codes "svsim" ∷ codes "watch" ∷ codes "--js" ∷ codes "t" ∷ [])
+        ≡ None }
+    ensures json_of_explain { asked (codes "svsim" ∷ codes "explain" ∷ codes "--json" ∷ codes "t"
+        ∷ codes "7" ∷ []) ≡ None }
+    ensures json_of_run { asked (codes "svsim" ∷ codes "run" ∷ codes "--json" ∷ codes "f" ∷ [])
+        ≡ None }
+    ensures max_twice { asked (codes "svsim" ∷ codes "watch" ∷ codes "--max" ∷ codes "1"
+        ∷ codes "--max" ∷ codes "2" ∷ codes "t" ∷ []) ≡ None }
+    ensures max_twice_the_same { asked (codes "svsim" ∷ codes "watch" ∷ codes "--max=1" ∷ codes "t"
+        ∷ codes "--max=1" ∷ []) ≡ None }
+    ensures max_last { asked (codes "svsim" ∷ codes "watch" ∷ codes "t" ∷ codes "--max" ∷ [])
+        ≡ None }
+    ensures max_before_json { asked (codes "svsim" ∷ codes "watch" ∷ codes "--max" ∷ codes "--json"
+        ∷ codes "t" ∷ []) ≡ None }
+    ensures max_takes_the_file { asked (codes "svsim" ∷ codes "watch" ∷ codes "--max" ∷ codes "1"
+        ∷ []) ≡ None }
+    ensures max_empty { asked (codes "svsim" ∷ codes "watch" ∷ codes "--max=" ∷ codes "t" ∷ [])
+        ≡ None }
+    ensures max_empty_word { asked (codes "svsim" ∷ codes "watch" ∷ codes "--max" ∷ [] ∷ codes "t"
+        ∷ []) ≡ None }
+    ensures no_max { asked (codes "svsim" ∷ codes "watch" ∷ codes "--max" ∷ codes "ten" ∷ codes "t"
+        ∷ []) ≡ None }
+    ensures max_in_hexadecimal { asked (codes "svsim" ∷ codes "watch" ∷ codes "--max" ∷ codes "0x1"
+        ∷ codes "t" ∷ []) ≡ None }
+    ensures max_too_great { asked (codes "svsim" ∷ codes "watch" ∷ codes "--max"
+        ∷ codes "18446744073709551616" ∷ codes "t" ∷ []) ≡ None }
+    ensures max_plus { asked (codes "svsim" ∷ codes "watch" ∷ codes "--max" ∷ codes "+1" ∷ codes "t"
+        ∷ []) ≡ None }
+    ensures max_minus { asked (codes "svsim" ∷ codes "watch" ∷ codes "--max=-1" ∷ codes "t" ∷ [])
+        ≡ None }
+    ensures max_of_explain { asked (codes "svsim" ∷ codes "explain" ∷ codes "--max" ∷ codes "1"
+        ∷ codes "t" ∷ codes "7" ∷ []) ≡ None }
+    ensures max_of_live { asked (codes "svsim" ∷ codes "live" ∷ codes "--max" ∷ codes "1"
+        ∷ codes "f" ∷ []) ≡ None }
+    ensures known_twice { asked (codes "svsim" ∷ codes "watch" ∷ codes "--known" ∷ codes "a"
+        ∷ codes "--known" ∷ codes "b" ∷ codes "t" ∷ []) ≡ None }
+    ensures known_twice_the_same { asked (codes "svsim" ∷ codes "watch" ∷ codes "--known=a"
+        ∷ codes "--known=a" ∷ codes "t" ∷ []) ≡ None }
+    ensures known_last { asked (codes "svsim" ∷ codes "watch" ∷ codes "t" ∷ codes "--known" ∷ [])
+        ≡ None }
+    ensures known_before_end { asked (codes "svsim" ∷ codes "watch" ∷ codes "--known" ∷ codes "--"
+        ∷ codes "t" ∷ []) ≡ None }
+    ensures known_takes_the_file { asked (codes "svsim" ∷ codes "watch" ∷ codes "--known"
+        ∷ codes "t" ∷ []) ≡ None }
+    ensures known_of_explain { asked (codes "svsim" ∷ codes "explain" ∷ codes "--known" ∷ codes "l"
+        ∷ codes "t" ∷ codes "7" ∷ []) ≡ None }
+    ensures known_of_check { asked (codes "svsim" ∷ codes "check" ∷ codes "--known" ∷ codes "l"
+        ∷ codes "f" ∷ []) ≡ None }
 {}
 
 /// `explain`, and its LINE.

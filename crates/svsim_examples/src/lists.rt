@@ -1,6 +1,6 @@
 //! The lists of the folder `cases/lists`: many short files each, with what the program answers to words
 //! that name one of them.
-use crate::program::answer_on;
+use crate::program::{Files, answer_on};
 use crate::tally::Tally;
 use std::alloc::Global;
 use std::sync::Wait;
@@ -35,12 +35,18 @@ fn ended(alloc: Global, line: Option<&str>) -> io::Result<String> {
     }
 }
 
-/// Whether the program answers to words on this text what is written: `WORDS: STATUS ERROR`, where no
+/// The text of a case's file, and that of a list of what is known, which stands behind a line `+++`.
+fn files_of(text: &str) -> Files<'_> {
+    let (file, list) = split(text, "\n+++\n");
+    Files { file, list }
+}
+
+/// Whether the program answers to words on these files what is written: `WORDS: STATUS ERROR`, where no
 /// error may be, and below it the lines on standard output.
 fn is_answered<T: Threads + Wait + Sync>(
     alloc: Global,
     threads: &T,
-    text: &str,
+    files: Files<'_>,
     written: &str,
 ) -> io::Result<bool> {
     let (head, out) = split(written, "\n");
@@ -53,12 +59,12 @@ fn is_answered<T: Threads + Wait + Sync>(
     };
     let out = ended(alloc, out)?;
     let err = ended(alloc, err)?;
-    let outcome = answer_on(alloc, threads, words, text)?;
+    let outcome = answer_on(alloc, threads, words, files)?;
     Ok(outcome.is(status, out.as_str(), err.as_str()))
 }
 
-/// Counts the answers of a case: `TITLE`, the text of the file, and at least one answer, each
-/// behind `--- `.
+/// Counts the answers of a case: `TITLE`, the text of the file, perhaps that of a list of what is known,
+/// and at least one answer, each behind `--- `.
 fn count_case<T: Threads + Wait + Sync>(
     rt: &HostRuntime,
     threads: &T,
@@ -72,8 +78,9 @@ fn count_case<T: Threads + Wait + Sync>(
         tally.count(rt, list, title, Ok(false));
         return;
     };
+    let files = files_of(text.unwrap_or(""));
     for written in answers.split("\n--- ") {
-        let came = is_answered(rt.alloc(), threads, text.unwrap_or(""), written);
+        let came = is_answered(rt.alloc(), threads, files, written);
         tally.count(rt, list, title, came);
     }
 }

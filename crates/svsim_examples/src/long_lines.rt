@@ -1,5 +1,5 @@
 //! Files of one long line, as long as a file may be, and what each command answers.
-use crate::program::{Outcome, answer_on};
+use crate::program::{Files, Outcome, answer_on};
 use std::alloc::{AllocError, Global};
 use std::io;
 use std::sync::Wait;
@@ -290,7 +290,7 @@ impl Line {
         let words = format!(in alloc; "svsim {command} FILE")?;
         let middle = repeated(alloc, unit, SHORT)?;
         let short = format!(in alloc; "{}{middle}{}", self.head, self.tail)?;
-        let wanted = answer_on(alloc, threads, words.as_str(), short.as_str())?;
+        let wanted = answer_on(alloc, threads, words.as_str(), Files::of(short.as_str()))?;
         Ok(outcome.out.as_slice() == wanted.out.as_slice())
     }
 
@@ -306,7 +306,7 @@ impl Line {
         let middle = repeated(alloc, unit, LENGTH.saturating_sub(ends))?;
         let text = format!(in alloc; "{}{middle}{}", self.head, self.tail)?;
         let words = format!(in alloc; "svsim {command} FILE")?;
-        let outcome = answer_on(alloc, threads, words.as_str(), text.as_str())?;
+        let outcome = answer_on(alloc, threads, words.as_str(), Files::of(text.as_str()))?;
         let is_check = command == "check";
         let error = if is_check {
             self.own_error()

@@ -56,6 +56,7 @@ pub fn answer<T: Threads + Wait + Sync>(
         alloc,
         Ok(words),
         |file| opened(rt, folder, file),
+        |list| opened(rt, folder, list),
         &mut out,
         &mut err,
         &OpenGate,
@@ -63,20 +64,37 @@ pub fn answer<T: Threads + Wait + Sync>(
     Ok(Outcome { status, out, err })
 }
 
-/// The text, for each name that it has in lists of cases.
-fn named<'a>(name: &str, text: &'a str) -> Option<&'a [u8]> {
-    match name {
-        "FILE" | "-x" | "--" => Some(text.as_bytes()),
-        _ => None,
+/// The files of a case of a list.
+#[derive(Clone, Copy)]
+pub struct Files<'a> {
+    /// The text of the file of the commands.
+    pub file: &'a str,
+    /// That of a list of what is known, if there is one.
+    pub list: Option<&'a str>,
+}
+
+impl<'a> Files<'a> {
+    /// This file alone.
+    pub fn of(file: &'a str) -> Files<'a> {
+        Files { file, list: None }
+    }
+
+    /// The text of a file, for each name that it has.
+    fn named(self, name: &str) -> Option<&'a [u8]> {
+        match name {
+            "FILE" | "-x" | "--" => Some(self.file.as_bytes()),
+            "LIST" => Some(self.list?.as_bytes()),
+            _ => None,
+        }
     }
 }
 
-/// What the program answers to the words of a line, where this text is the only file.
+/// What the program answers to the words of a line, where these are the only files.
 pub fn answer_on<T: Threads + Wait + Sync>(
     alloc: Global,
     threads: &T,
     line: &str,
-    text: &str,
+    files: Files<'_>,
 ) -> io::Result<Outcome> {
     let words = words_of(alloc, line)?;
     let mut out: Vec<u8> = Vec::new(alloc);
@@ -85,7 +103,8 @@ pub fn answer_on<T: Threads + Wait + Sync>(
         threads,
         alloc,
         Ok(words),
-        |name| named(name, text),
+        |name| files.named(name),
+        |name| files.named(name),
         &mut out,
         &mut err,
         &OpenGate,

@@ -13,6 +13,8 @@ mod gates;
 #[cfg(test)]
 mod interrupted;
 #[cfg(test)]
+mod known_lists;
+#[cfg(test)]
 mod limits;
 #[cfg(test)]
 mod lines_written;

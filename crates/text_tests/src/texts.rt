@@ -52,7 +52,8 @@ fn words_that_are_not_there(rt: HostRuntime) {
         let mut out: Vec<u8> = Vec::new(alloc);
         let mut err: Vec<u8> = Vec::new(alloc);
         let open = |_name: &str| Some(FILE.as_bytes());
-        let answered = answer_words(&rt, alloc, words, open, &mut out, &mut err, &OpenGate);
+        let none = |_name: &str| None::<&[u8]>;
+        let answered = answer_words(&rt, alloc, words, open, none, &mut out, &mut err, &OpenGate);
         assert!(rt; answered == status);
         assert!(rt; out.is_empty());
         assert!(rt; err.as_slice() == line.as_bytes());

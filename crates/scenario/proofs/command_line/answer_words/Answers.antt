@@ -1,4 +1,4 @@
-use Rattle.std.proofs.Common.{inl, refl}
+use Rattle.std.proofs.Common.{inl}
 use Rattle.std.proofs.KnownBytes.{Keeps-refl}
 use Rattle.scenario.proofs.AskLemmas.{none_asked, none_unasked, some_asked, some_unasked, unasked}
 use Rattle.scenario.proofs.command_line.answer_words.Goals as goal
@@ -6,7 +6,7 @@ use Rattle.scenario.proofs.command_line.answer_words.Goals as goal
 pub returns-in-Ok-Some-clause-asked : goal.returns-in-Ok-Some-clause-asked
 returns-in-Ok-Some-clause-asked g c =
     let found = rw c.as_slice.ensures.value at c.in-Ok-Some.ensures in
-    rw c.in-Ok.is (some_asked _ _ found _ c.in-Ok-Some.ask c.in-Ok-Some.field-0-is (inl (c.reader_of.result, (c.in-Ok-Some.ask.file, c.reader_of.ensures, refl), c.on_file.ensures)))
+    rw c.in-Ok.is (some_asked _ _ found _ c.in-Ok-Some.ask c.in-Ok-Some.field-0-is (inl c.on_ask.ensures))
 
 pub returns-in-Ok-Some-clause-unasked : goal.returns-in-Ok-Some-clause-unasked
 returns-in-Ok-Some-clause-unasked g c =

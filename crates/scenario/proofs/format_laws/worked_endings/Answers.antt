@@ -21,3 +21,7 @@ returns-clause-wrong_line_after_a_verdict c = (refl, refl)
 pub returns-clause-no_verdict : goal.returns-clause-no_verdict
 unfolding digits
 returns-clause-no_verdict c = (refl, refl)
+
+pub returns-clause-wrong_entry : goal.returns-clause-wrong_entry
+unfolding digits
+returns-clause-wrong_entry c = (refl, refl)
