@@ -134,7 +134,7 @@ judge 'BUILD has what the gate printed last' '    rt: all proved|    8 passed, 0
 judge 'the version' "$(cat "$root/BUILD")" "$(bare "$root/bin/svsim" --version)"
 judge 'the tour' 3 "$(cd / && bare "$root/bin/svsim" tour | grep -c '^\$ svsim [a-z]* /')"
 options=$(bare "$root/bin/svsim" help watch | sed -n 's/^  \(--[a-z]*\) .*/\1/p' | tr '\n' ' ')
-judge 'the options of watch' '--all --quiet --hart --page --kind ' "$options"
+judge 'the options of watch' '--all --quiet --json --max --known --hart --page --kind ' "$options"
 tests=$(bare "$root/bin/svsim" help explain | sed -n 's/^  \(--[a-z]*\) .*/\1/p' | tr '\n' ' ')
 judge 'the options of explain' '--hart --page --kind ' "$tests"
 commands=$(bare "$root/bin/svsim" help | sed -n 's/^  \([a-z]*\) .*/\1/p' | tr '\n' ' ')
@@ -193,6 +193,9 @@ if has bash; then
         COMP_WORDS=("$1/bin/svsim" watch -) COMP_CWORD=2; _svsim; printf "%s " "${COMPREPLY[@]}"' bash "$root")"
     judge 'kinds by bash' 'kernel-claim kernel-free kernel-reuse kernel-use ' "$(bare bash -c '. "$1/share/bash-completion/completions/svsim"
         COMP_WORDS=("$1/bin/svsim" watch --kind = k) COMP_CWORD=4; _svsim; printf "%s " "${COMPREPLY[@]}"' bash "$root")"
+    judge 'a list by bash' "$root/BUILD" "$(bare bash -c '. "$1/share/bash-completion/completions/svsim"
+        compopt() { :; }
+        COMP_WORDS=("$1/bin/svsim" watch --known "$1/BU") COMP_CWORD=3; _svsim; printf "%s" "${COMPREPLY[@]}"' bash "$root")"
     judge 'the command behind an option by bash' 'watch ' "$(bare bash -c '. "$1/share/bash-completion/completions/svsim"
         COMP_WORDS=("$1/bin/svsim" --all wat) COMP_CWORD=2; _svsim; printf "%s " "${COMPREPLY[@]}"' bash "$root")"
     judge 'files by bash' "$root/BUILD" "$(bare bash -c '. "$1/share/bash-completion/completions/svsim"

@@ -1,17 +1,23 @@
 #!/usr/bin/env python3
 """The definitions of the crate `watch`, word for word over sets, for traces of a few hundred records.
 
-watch_definitions.py TRACE          prints each verdict that is given and new, behind its line of the file
+watch_definitions.py TRACE          prints what `svsim watch --all TRACE` does, with its status
 watch_definitions.py --random SEED  prints a random trace
+
+Translations that differ only in what a line does not show share one, and it says since when one of them is stale: here the one that is so
+for longest.
 """
 import random
+import re
 import sys
-from collections import namedtuple
+from collections import Counter, namedtuple
 
 from trace_lines import EVERY, SV39, SV48, fence, header, line_of, space
 
 # what is global is of every address space: its root and its ASID say nothing, and are 0
 Translation = namedtuple("Translation", "root asid is_global base level ppn flags")
+
+VERDICTS = ("free", "reuse", "claim", "use")
 
 
 def kind(word):
@@ -148,9 +154,19 @@ def is_fenced(rs1, rs2, x, top):
     return rs2 is None or (not x.is_global and x.asid == rs2 & 0xFFFF)
 
 
+def is_record(line):
+    return bool(line.strip()) and line[0] not in "#m"
+
+
+def parts(line):
+    """The fields of a line, and its note if it has one."""
+    fields, *note = re.split(" [@#]", line, maxsplit=1)
+    return fields, note[0] if note else None
+
+
 def read(line):
     """A line of a trace as a record; None for a mark."""
-    op, *fields = [f for f in line.split() if f[0] not in "@#"]
+    op, *fields = parts(line)[0].split()
     if op == "m":
         return None
     number = [None if f == "-" else int(f, 16) for f in fields]
@@ -175,25 +191,69 @@ def read(line):
 
 def shown(verdict, hart, x):
     """What a line shows: a TLB entry knows no root, and one that is global no ASID; A and D count for nothing."""
-    tag = "any" if x.is_global else f"{x.asid:x} root {x.root:x}"
+    asid, root = ("any", "any") if x.is_global else (f"{x.asid:x}", f"{x.root:x}")
     flags = "".join(c if x.flags >> bit & 1 else "-" for bit, c in ((1, "r"), (2, "w"), (3, "x"), (4, "u"))) + ("g" if x.is_global else "-")
-    return f"{'kernel-' * x.is_global}{verdict} hart {hart} {x.base:x}+{size(x):x} -> {x.ppn:x} {flags} asid {tag}"
+    return f"{'kernel-' * x.is_global}{verdict} hart {hart} may hold page {x.base:x}+{size(x):x} -> {x.ppn:x} {flags} asid {asid} root {root}"
 
 
-def judge(lines):
-    trace = None
-    for place, line in enumerate(lines, 1):
-        if not line.strip() or line[0] == "#":
-            continue
-        if line.startswith("watch "):
-            _, _, harts, scheme = line.split()
-            trace = Trace(int(harts), {"sv39": 3, "sv48": 4}[scheme])
-            continue
-        record = read(line)
-        if record is None:
-            continue
-        for text in sorted({shown(*given) for given in trace.record(record)}):
-            yield f"{place} {text}"
+def place(verdict, hart, x):
+    """Where a verdict stands among those of its record."""
+    return hart, x.base, x.level, x.ppn, x.flags >> 1 & 15, x.is_global, VERDICTS.index(verdict), x.root, x.asid
+
+
+def why(trace, record, line_at):
+    """What a line says that the kernel did."""
+    op, hart = record[:2]
+    if op in ("free", "reuse"):
+        return f"frames {record[2]:x}+{record[3]:x} given {'back' if op == 'free' else 'out'}"
+    if op == "use":
+        return f"hart {hart} uses {record[2]:x}"
+    return f"claimed clean since line {line_at[trace.claims[record[2]][2]]}" if op == "claim_end" and record[2] in trace.claims else ""
+
+
+def stale_since(trace, hart, x, number):
+    while number and x in trace.stale[number - 1][hart]:
+        number -= 1
+    return number
+
+
+def wanted(lines):
+    """The verdicts in order, as their line, their place and what is shown of them; and for each the records since which it may be said to
+    be stale, with how the line goes on."""
+    _, _, harts, scheme = lines[0].split()
+    trace, due = Trace(int(harts), {"sv39": 3, "sv48": 4}[scheme]), {}
+    line_at = [1, *(place for place, line in enumerate(lines[1:], 2) if is_record(line))]  # of each record; the header's is 1
+    notes = [parts(lines[line - 1])[1] for line in line_at]
+
+    def by(number):
+        return f" by {notes[number]}" if notes[number] else ""
+
+    for number, line in enumerate(line_at[1:], 1):
+        record = read(lines[line - 1])
+        what = why(trace, record, line_at) + by(number)
+        for given in trace.record(record):
+            since = stale_since(trace, *given[1:], number - 1)
+            rest = f"stale since line {line_at[since]}{by(since)}; {what}"
+            due.setdefault((line, place(*given), shown(*given)), set()).add((since, rest))
+    return dict(sorted(due.items()))
+
+
+def printed(due, name):
+    """The lines of verdicts on the trace of this name."""
+    for (line, _, text), rests in due.items():
+        yield f"{name}:{line}: {text}, {min(rests)[1]}"
+
+
+def counted(number, noun):
+    return f"{number} {noun}" + ("" if number == 1 else "s")
+
+
+def last_line(lines, due):
+    records, counts = counted(sum(map(is_record, lines[1:])), "record"), Counter(text.split()[0] for _, _, text in due)
+    if not due:
+        return f"{records}, no verdict"
+    words = [owner + verdict for owner in ("", "kernel-") for verdict in VERDICTS]
+    return f"{records}, {counted(len(due), 'verdict')}: " + ", ".join(f"{word} {counts[word]}" for word in words if counts[word])
 
 
 class Kernel:
@@ -312,9 +372,12 @@ def main():
     if sys.argv[1] == "--random":
         print("\n".join(made(int(sys.argv[2]))))
         return
-    with open(sys.argv[1]) as lines:
-        for line in judge(lines):
-            print(line)
+    with open(sys.argv[1], encoding="utf-8", errors="surrogateescape", newline="\n") as file:
+        lines = file.read().removesuffix("\n").split("\n")
+    due = wanted(lines)
+    for line in (*printed(due, sys.argv[1]), last_line(lines, due)):
+        sys.stdout.buffer.write(line.encode("utf-8", "surrogateescape") + b"\n")
+    sys.exit(bool(due))
 
 
 if __name__ == "__main__":

@@ -79,21 +79,12 @@ nameless() {
     sed -E 's/^.*\.trace:([0-9]+: [a-z-]+ hart )/\1/'
 }
 
-# Lines of a program, as the definitions show them.
-as_shown() {
-    sed -nE 's/^([0-9]+): ([a-z-]+ hart [0-9]+) may hold page ([^,]*), stale since .*/\1 \2 \3/p' | sed 's/ asid any root any$/ asid any/' | sort
-}
-
 # The verdicts on a trace have to be those of its case, and the status.
 judge() {
-    local status=0
-    if [ -n "$svsim" ]; then
-        "$svsim" watch --all "$2" >"$own/verdicts" || status=$?
-        wanted "$1" | cmp - <(nameless <"$own/verdicts" | sort) && [ $status = "$(cat "$cases-$1.status" 2>/dev/null || echo 0)" ]
-    else
-        python3 -B "$top/scripts/watch_definitions.py" "$2" >"$own/verdicts" || return 1
-        wanted "$1" | as_shown | cmp - <(sort "$own/verdicts")
-    fi
+    local status=0 program=(python3 -B "$top/scripts/watch_definitions.py")
+    if [ -n "$svsim" ]; then program=("$svsim" watch --all); fi
+    "${program[@]}" "$2" >"$own/verdicts" || status=$?
+    wanted "$1" | cmp - <(nameless <"$own/verdicts" | sort) && [ $status = "$(cat "$cases-$1.status" 2>/dev/null || echo 0)" ]
 }
 
 numbers=$(echo 0; sed -nE 's/^    [A-Z_]+ = ([0-9]+),? +\/\*.*/\1/p' "$kernel/kernel.h")

@@ -11,7 +11,7 @@ import sys
 
 from trace_lines import KERNEL, address, claim, fence, given_back, given_out, header, kernel_leaf, leaf, line_of, pointer, remote_fence
 from trace_lines import satp, store
-from watch_random import last_line, printed, wanted
+from watch_definitions import last_line, printed, wanted
 
 ROOT, OTHER_ROOT, BARE_ROOT, MIDDLE, OTHER_MIDDLE, LEAVES = 0x80000, 0x80010, 0x80020, 0x80001, 0x80003, 0x80002
 
@@ -193,16 +193,16 @@ def listed():
     for of, *sizes in LISTED:
         for n in sizes:
             lines = list(of(n))
-            due = wanted(lines, {})
-            assert len(due) == len({text.split()[0] for text in due})
+            due = wanted(lines)
+            assert len(due) == len({line for line, _, _ in due})
             yield from (f"=== {n}: {of.__doc__}", *lines, f"--- svsim watch --all FILE: {int(bool(due))}", *printed(due, "FILE"))
-            yield last_line(len(lines) - 1, due)
+            yield last_line(lines, due)
 
 
 def counted(lines, name):
     """Each line, which is printed once, and the last; behind the header a comment stands."""
-    due = wanted(lines, {})
-    return [*(f"1 {text}" for text in printed(due, name)), f"1 {last_line(len(lines) - 2, due)}"]
+    due = wanted(lines)
+    return [*(f"1 {text}" for text in printed(due, name)), f"1 {last_line(lines, due)}"]
 
 
 def main():

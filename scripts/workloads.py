@@ -239,11 +239,10 @@ def main(name, seed, records, *more):
         file.write(text)
         file.flush()
         here = os.path.dirname(os.path.realpath(__file__))
-        out = subprocess.run([sys.executable, f"{here}/watch_definitions.py", file.name], capture_output=True, check=True)
-    if out.stdout:
-        sys.exit("there are verdicts, whose lines this script does not make")
-    count = text.count(chr(10)) - 1
-    print(digest(f"{count} record{'' if count == 1 else 's'}, no verdict\n".encode()))
+        out = subprocess.run([sys.executable, f"{here}/watch_definitions.py", file.name], stdout=subprocess.PIPE)
+    if out.returncode:
+        sys.exit("there are verdicts")
+    print(digest(out.stdout))
 
 
 if __name__ == "__main__":
