@@ -180,7 +180,7 @@ if has man; then
         judge "$command in the manual page" 1 "$(man -l "$root/share/man/man1/svsim.1" 2>/dev/null | grep -c -E "^   $command( [A-Z]+)*\$")"
     done
     for option in $options; do
-        judge "$option in the manual page" "$(case $tests in *"$option "*) echo 4 ;; *) echo 2 ;; esac)" "$(man -l "$root/share/man/man1/svsim.1" 2>/dev/null |
+        judge "$option in the manual page" "$(case $tests in *"$option "*) echo 2 ;; *) echo 1 ;; esac)" "$(man -l "$root/share/man/man1/svsim.1" 2>/dev/null |
             grep -c -E -- "(^       |\[|\|)$option")"
     done
 else
