@@ -202,7 +202,7 @@ limited() {
     elif grep -q 'error while loading shared libraries\|Cannot allocate memory\|cannot allocate memory' err || [ "$status" = 126 ]; then
         unloaded=$((unloaded + 1))
     # (there the system, or its loader, ends the program by a signal before it is loaded: strace shows execve and no call of its own)
-    elif [ "$status" = 139 ] && [ "$size" -lt 1200 ] && [ ! -s err ] && [ ! -s out ]; then
+    elif [ "$status" = 139 ] && [ "$size" -lt 1600 ] && [ ! -s err ] && [ ! -s out ]; then
         unloaded=$((unloaded + 1))
     elif grep -q 'no thread' err; then
         judge "$name" "$status" 5 'no thread' none

@@ -136,7 +136,7 @@ judge 'the tour' 3 "$(cd / && bare "$root/bin/svsim" tour | grep -c '^\$ svsim [
 options=$(bare "$root/bin/svsim" help watch | sed -n 's/^  \(--[a-z]*\) .*/\1/p' | tr '\n' ' ')
 judge 'the options of watch' '--all --quiet --json --max --known --hart --page --kind ' "$options"
 tests=$(bare "$root/bin/svsim" help explain | sed -n 's/^  \(--[a-z]*\) .*/\1/p' | tr '\n' ' ')
-judge 'the options of explain' '--hart --page --kind ' "$tests"
+judge 'the options of explain' '--svg --hart --page --kind ' "$tests"
 commands=$(bare "$root/bin/svsim" help | sed -n 's/^  \([a-z]*\) .*/\1/p' | tr '\n' ' ')
 judge 'the commands' 'run live walk stale show draw check watch explain tour help version ' "$commands"
 

@@ -56,7 +56,7 @@ words_of() {
     case $1 in
     watch*with*) printf 'watch\n%s%s{}\n' "${option:+--$option$newline}" "$tests" ;;
     watchall | watchquiet) printf 'watch\n--%s\n{}\n' "${1#watch}" ;;
-    explain*) printf 'explain\n%s{}\n%s\n' "$tests" "$line" ;;
+    explain*) printf 'explain\n%s%s{}\n%s\n' "${svg:+--svg$newline}" "$tests" "$line" ;;
     *) printf '%s\n{}\n' "${1#[0-9]}" ;;
     esac
 }
@@ -136,7 +136,7 @@ in_json() {
 # (crates/checks/src/shown.rt), and in a picture its last component, of 60 characters at most, with `?` for what is not ASCII
 # (crates/draw/src/heading.rt).
 named() {
-    case $1 in
+    case $1${svg-} in
     watch)
         NAME=$file LIST=$known JSON_NAME=$(in_json "$file") JSON_LIST=$(in_json "$known") awk '
             /^case:[0-9]+: / { print ENVIRON["NAME"] substr($0, 5); next }
@@ -153,7 +153,7 @@ named() {
         NAME=$(printf %s "$file" | tr '\000-\037\177' '?' | LC_ALL=C sed 's/\xc2[\x80-\x9f]/?/g; s/\xd8\x9c/?/g
             s/\xe2\x80[\x8e\x8f\xaa-\xae]/?/g; s/\xe2\x81[\xa6-\xa9]/?/g') awk '
             { if (index($0, "case:") == 1) print ENVIRON["NAME"] substr($0, 5); else print }' ;;
-    draw)
+    draw | explainsvg)
         NAME=$(printf %s "${file##*/}" | tr '\t' ' ' | tr '\000-\037\177' '?' | LC_ALL=C sed "s/[\xc0-\xff][\x80-\xbf]*/?/g
             s/^\(.\{60\}\)..*/\1../
             s/&/\&amp;/g; s/</\&lt;/g; s/>/\&gt;/g; s/\"/\&quot;/g; s/'/\&apos;/g") awk '
@@ -212,7 +212,7 @@ answer() {
     : >"$own/list"
     if has_list; then copy "$known" list front_of; fi
     copy "$file" given copy_of
-    asked=$command$option$line${tests:+with$({ printf '%s\n\n' "$tests" && sha256sum <"$own/list"; } | sha256sum | cut -c1-16)}
+    asked=$command$svg$option$line${tests:+with$({ printf '%s\n\n' "$tests" && sha256sum <"$own/list"; } | sha256sum | cut -c1-16)}
     if ! is_of_trace && [ "$(wc -c <"$own/given")" -gt $most_bytes ]; then
         refuse 'file too large' "a file has at most $most_bytes bytes"
     fi
@@ -220,7 +220,8 @@ answer() {
     folder=$(answers_on "$own/given")
     if [ -f "$folder/$asked.status" ]; then print_answer "$folder"; fi
     whole=yes
-    if is_of_trace; then
+    # The smaller program draws nothing.
+    if is_of_trace && [ -z "$svg" ]; then
         build_watch "$own/given"
         take_apart "$folder" $names
         # Where the smaller program could not read, write or find memory, the whole one tells it.

@@ -9,10 +9,10 @@ with all its verdicts. A *cause* is all findings that agree in three things: pag
   page, for some ASID; none for this page; else a fence that was not done yet.
 - `free`, `reuse`: no flush of the page has begun since it was stale, or else the same of the newest that has.
 
-Below a cause stand its verdicts, and how many findings are *used* (`watch` gave `use`), *reachable* (from the first verdict to the fence
-that drops it, the ASID is in the hart's satp; of a global page any), or *not reached*. Then come the notes of the stores, and one example.
-Numbers behind TRACE: are lines of the file. First come pages of users, then frames that were given out again, then what can be used. A
-cause has the number that `watch` gives it.
+It prints what `svsim watch` prints at the end, by a text of its own: for each cause a line, and below it a line for each note of the records that made
+pages stale, with their findings, pages, address spaces and harts, the harts of which their flush asked for a fence, and how many findings are
+*used* (`watch` gave `use`), *reachable* (from the first verdict to the fence that drops it, the ASID is in the hart's satp; of a global page any),
+or *not reached*. First come pages of users, then frames that were given out again, then what can be used. A cause has the number that `watch` gives it.
 PROGRAM stands for ./svsim, which prints 1 MiB at most before `./svsim prove`. The status is that of `watch`.
 
 Each verdict is in one finding. Reasons and groups are this script's own: no proof stands behind them.
@@ -20,7 +20,7 @@ Each verdict is in one finding. Reasons and groups are this script's own: no pro
 import os, re, subprocess, sys
 from bisect import bisect_left, bisect_right
 from collections import Counter, defaultdict, namedtuple
-from watch_definitions import is_fenced, reaches, read
+from watch_definitions import is_fenced, reaches, read, shown_note
 
 TOP = os.path.dirname(os.path.dirname(os.path.abspath(__file__)))
 VERDICT = re.compile(
@@ -48,6 +48,7 @@ class Finding:
     def __init__(self, page, hart, since, first, kind, text):
         self.page, self.hart, self.since, self.first, self.kind, self.text = page, hart, since, first, kind, text
         self.given, self.place = [], 0  # records and verdicts; which of the findings it is
+        self.reach, self.fenced = "", 0  # the harts of which its flush asked for a fence
 
     @property
     def verdicts(self):
@@ -159,12 +160,22 @@ class Trace:
                 return flush
         return None
 
-    def reason(self, finding):
+    def flush_of(self, finding):
         if finding.kind == "claim":
-            flush = self.flush_ending[finding.first]
-        else:  # that has not ended, or there had been a claim
-            flush = self.newest_flush(finding.page, finding.since, finding.first)
+            return self.flush_ending[finding.first]
+        # that has not ended, or there had been a claim
+        return self.newest_flush(finding.page, finding.since, finding.first)
+
+    def reason(self, finding):
+        flush = self.flush_of(finding)
         return self.reason_of(flush, finding.first, finding.hart, finding.page) if flush else NO_FLUSH
+
+    def fenced(self, finding):
+        """The harts of which its flush asked for a fence, a bit each."""
+        flush, mask = self.flush_of(finding), 0
+        for fence in self.asked(flush, finding.first, finding.hart) if flush else []:
+            mask |= 1 << fence.hart if isinstance(fence, Fence) else fence.mask
+        return mask
 
     def reach(self, finding):
         if finding.verdicts["use"]:
@@ -176,6 +187,8 @@ class Trace:
         events = self.events[finding.hart]
         for record, event in events[bisect_left(events, (finding.first,)) :]:
             if isinstance(event, (Fence, Remote)):
+                if isinstance(event, Remote) and event.record <= finding.since:
+                    continue  # the hart may have executed it before the store
                 if covers_space(event, finding.page) and covers_page(event, finding.page, self.top):
                     return "not reached"
             elif is_under(event, finding.page):
@@ -211,11 +224,10 @@ def finding_of(text, parts, record_at):
     return Finding(page, int(hart), record_at[int(since)], record_at[int(first)], kind, text)
 
 
-def findings_of(program, path):
-    """The findings in the order of their first verdicts, what `watch` says last, and its status."""
+def gathered(lines, path):
+    """The findings of verdicts in the order of their first ones, by their lines; and the last line, which is none."""
     found, last, record_at = {}, "", records_at(path)
-    watch = subprocess.Popen([program, "watch", "--all", path], stdout=subprocess.PIPE, encoding="utf-8", errors="surrogateescape")
-    for line in watch.stdout:
+    for line in lines:
         parts = VERDICT.fullmatch(line.rstrip("\n").removeprefix(f"{path}:"))
         if not parts:
             last = line
@@ -224,15 +236,22 @@ def findings_of(program, path):
         found.setdefault((new.since, new.hart, new.page), new).given.append((new.first, new.kind))
     for place, finding in enumerate(found.values()):
         finding.place = place
-    return list(found.values()), last, watch.wait()
+    return list(found.values()), last
+
+
+def findings_of(program, path):
+    """The findings, what `watch` says last, and its status."""
+    watch = subprocess.Popen([program, "watch", "--all", path], stdout=subprocess.PIPE, encoding="utf-8", errors="surrogateescape")
+    findings, last = gathered(watch.stdout, path)
+    return findings, last, watch.wait()
 
 
 def counted(number, noun):
-    return f"{number:,} {noun}" + ("" if number == 1 else "s")
+    return f"{number} {noun}" + ("" if number == 1 else "s")
 
 
-def listed(numbers):
-    return ", ".join(map(str, sorted(numbers)))
+def harts_text(harts):
+    return ("hart " if len(harts) == 1 else "harts ") + ", ".join(map(str, sorted(harts)))
 
 
 def weight(key, findings):
@@ -241,23 +260,42 @@ def weight(key, findings):
     return kernel, not any(f.verdicts["reuse"] for f in findings), min(REACHES.index(f.reach) for f in findings), -len(findings)
 
 
-def told(path, trace, key, findings):
-    """A cause in lines."""
+def cause_text(key):
     kernel, kind, reason = key
-    verdicts = sum((f.verdicts for f in findings), Counter())
-    reach = Counter(f.reach for f in findings)
+    return f"{'kernel' if kernel else 'user'} pages, first {kind}: {reason}"
+
+
+def note_line(note, findings):
+    """What is counted of the findings of one note."""
     pages, spaces = {f.page for f in findings}, {(f.page.asid, f.page.root) for f in findings}
-    yield f"{'kernel' if kernel else 'user'} pages, first `{kind}`: {reason}"
-    of = "" if kernel else f" of {counted(len(spaces), 'space')}"
-    yield f"{counted(len(findings), 'finding')}: {counted(len(pages), 'page')}{of}, harts {listed({f.hart for f in findings})}"
-    yield "verdicts: " + ", ".join(f"{v} {verdicts[v]:,}" for v in KINDS if verdicts[v])
-    yield ", ".join(f"{r} {reach[r]:,}" for r in REACHES if reach[r])
-    for note, count in Counter(trace.notes.get(f.since) for f in findings).most_common(MOST_NOTES):
-        if note is not None:
-            yield f"stale by {note}: {count:,}"
-    one = min(findings, key=lambda f: (REACHES.index(f.reach), f.first))
-    verdict = one.text.removeprefix(f"{path}:{trace.lines[one.first]}: ").split(", stale since")[0]
-    yield f"{path}:{trace.lines[one.since]}: stale from here on; {path}:{trace.lines[one.first]}: {verdict}"
+    of = "" if findings[0].page.is_global else f" of {counted(len(spaces), 'space')}"
+    mask = 0
+    for finding in findings:
+        mask |= finding.fenced
+    fenced = f"; fences asked of {harts_text([hart for hart in range(64) if mask >> hart & 1])}" if mask else ""
+    reach = Counter(f.reach for f in findings)
+    return (f"  stale {'by ' + shown_note(note) if note else 'without a note'}: {counted(len(findings), 'finding')}, {counted(len(pages), 'page')}{of}, "
+            f"{harts_text({f.hart for f in findings})}{fenced}; " + ", ".join(f"{r} {reach[r]}" for r in REACHES if reach[r]))
+
+
+def note_lines(trace, findings):
+    """The notes with the most findings first, and then in the order in which they began."""
+    groups = defaultdict(list)
+    for finding in findings:
+        groups[trace.notes.get(finding.since) or None].append(finding)
+    ordered = sorted(groups.items(), key=lambda item: -len(item[1]))
+    yield from (note_line(*item) for item in ordered[:MOST_NOTES])
+    if ordered[MOST_NOTES:]:
+        rest = [finding for _, findings in ordered[MOST_NOTES:] for finding in findings]
+        yield f"  {counted(len(ordered) - MOST_NOTES, 'more note')}: {counted(len(rest), 'finding')}"
+
+
+def told(path, trace, number, key, findings):
+    """A cause in lines."""
+    verdicts = sum((f.verdicts for f in findings), Counter())
+    yield (f"{path}:{trace.lines[findings[0].first]}: cause {number}: {cause_text(key)}; {counted(len(findings), 'finding')}: "
+           + ", ".join(f"{v} {verdicts[v]}" for v in KINDS if verdicts[v]))
+    yield from note_lines(trace, findings)
 
 
 def judged_by(last):
@@ -268,11 +306,23 @@ def judged_by(last):
 def causes_of(program, path):
     """The causes in their order, each with its findings; what `watch` says last, and its status; and the trace."""
     findings, last, status = findings_of(program, path)
-    trace, causes = Trace(path, judged_by(last)), defaultdict(list)
+    trace = Trace(path, judged_by(last))
+    return causes_among(trace, findings), last, status, trace
+
+
+def causes_among(trace, findings):
+    """The causes of findings in their order."""
+    causes = defaultdict(list)
     for finding in findings:
-        finding.reach = trace.reach(finding)
+        finding.reach, finding.fenced = trace.reach(finding), trace.fenced(finding)
         causes[finding.page.is_global, finding.kind, trace.reason(finding)].append(finding)
-    return sorted(causes.items(), key=lambda item: weight(*item)), last, status, trace
+    return sorted(causes.items(), key=lambda item: weight(*item))
+
+
+def numbered(causes):
+    """Each cause with its number: 1 for the one that began first."""
+    begun = sorted(findings[0].place for _, findings in causes)
+    return [(begun.index(findings[0].place) + 1, (key, findings)) for key, findings in causes]
 
 
 def main(words):
@@ -285,10 +335,9 @@ def main(words):
     except OSError as error:
         print(f"watch_causes.py: {error}", file=sys.stderr)
         return 2
-    begun = sorted(findings[0].place for _, findings in causes)
-    for key, findings in causes:
-        print(f"cause {begun.index(findings[0].place) + 1}: " + "\n  ".join(told(path, trace, key, findings)))
-    print(f"{counted(len(causes), 'cause')}, {counted(sum(len(findings) for _, findings in causes), 'finding')}; {last or 'not all was judged'}".rstrip())
+    for number, (key, findings) in numbered(causes):
+        print("\n".join(told(path, trace, number, key, findings)))
+    print((last or "not all was judged").rstrip())
     if status > 1 or trace.is_cut:
         print("watch_causes.py: `watch` judged the records before a wrong line alone" if trace.is_cut else
               f"watch_causes.py: `watch` ended with status {status} (docs/FORMAT.md): these are its verdicts before that", file=sys.stderr)

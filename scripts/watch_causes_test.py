@@ -7,9 +7,8 @@ lists of cases, `watch` prints what the causes and the lines of `watch --all` gi
 The last line is `N passed, M failed`.
 """
 import os, subprocess, sys, tempfile
-from collections import Counter
 from same_watch import traces
-from watch_causes import BY_ASID, KINDS, NO_FENCE, NO_FLUSH, NOT_DONE, NOT_THIS_HART, OTHER_ASID, OTHER_PAGE, TOP, causes_of
+from watch_causes import BY_ASID, NO_FENCE, NO_FLUSH, NOT_DONE, NOT_THIS_HART, OTHER_ASID, OTHER_PAGE, TOP, cause_text, causes_of, numbered, told
 from trace_lines import access, bare, claim, fence, given_back, given_out, header, kernel_leaf, leaf, line_of, pointer, remote_fence, satp, store
 
 # What the mistake of the kernel (scenes.c, kernel.c) leaves undone.
@@ -122,16 +121,12 @@ def report(program, path):
     """What `watch` has to print of a trace by causes, and what it prints."""
     causes, last, _, trace = causes_of(program, path)
     blocks, totals = [], []
-    for number, ((kernel, kind, reason), findings) in enumerate(sorted(causes, key=lambda item: item[1][0].place), 1):
-        first, verdicts = findings[0], sum((f.verdicts for f in findings), Counter())
-        text = f"{'kernel' if kernel else 'user'} pages, first {kind}: {reason}"
-        blocks += [first.text, f"  cause {number}: {text}"]
-        count = f"{len(findings)} finding" + ("" if len(findings) == 1 else "s")
-        kinds = ", ".join(f"{each} {verdicts[each]}" for each in KINDS if verdicts[each])
-        totals.append(((kernel, not verdicts["reuse"], -len(findings)), f"{path}:{trace.lines[first.first]}: cause {number}: {text}; {count}: {kinds}"))
-    wanted = [*blocks, *(text for _, text in sorted(totals, key=lambda total: total[0]))]
+    for number, (key, findings) in sorted(numbered(causes), key=lambda item: item[0]):
+        blocks += [findings[0].text, f"  cause {number}: {cause_text(key)}"]
+    for number, (key, findings) in numbered(causes):
+        totals += told(path, trace, number, key, findings)
     printed = subprocess.run([program, "watch", path], capture_output=True, encoding="utf-8", errors="surrogateescape").stdout
-    return "".join(f"{line}\n" for line in wanted) + last, printed
+    return "".join(f"{line}\n" for line in [*blocks, *totals]) + last, printed
 
 
 def reports(program):

@@ -189,6 +189,11 @@ def read(line):
     return ("use", hart, number[1]) if op == "u" else None
 
 
+def shown_note(note):
+    """A note as it is shown: bytes that are not printable ASCII stand as \\xHH."""
+    return "".join(chr(byte) if 32 <= byte < 127 else f"\\x{byte:02x}" for byte in note.encode("utf-8", "surrogateescape"))
+
+
 def shown(verdict, hart, x):
     """What a line shows: a TLB entry knows no root, and one that is global no ASID; A and D count for nothing."""
     asid, root = ("any", "any") if x.is_global else (f"{x.asid:x}", f"{x.root:x}")
@@ -226,7 +231,7 @@ def wanted(lines):
     notes = [parts(lines[line - 1])[1] for line in line_at]
 
     def by(number):
-        return f" by {notes[number]}" if notes[number] else ""
+        return f" by {shown_note(notes[number])}" if notes[number] else ""
 
     for number, line in enumerate(line_at[1:], 1):
         record = read(lines[line - 1])

@@ -142,6 +142,19 @@ for word in --all --quiet --json '--max 1' '--known l'; do
     refuses "explain $word file.trace 7"
     refuses "explain file.trace 7 $word"
 done
+for command in run live walk stale show draw check watch; do
+    refuses "$command --svg file.toml"
+    refuses "$command file.toml --svg"
+done
+refuses 'explain --svg file.trace'
+refuses 'explain --svg --svg file.trace 7'
+refuses 'explain --svg=yes file.trace 7'
+refuses 'explain --sv file.trace 7'
+refuses 'explain -svg file.trace 7'
+refuses 'explain file.trace 7 -- --svg'
+refuses 'explain --svg --json file.trace 7'
+refuses '--svg file.trace 7'
+refuses '--svg help explain'
 refuses 'watch --max=-1 file.trace'
 for command in run live walk stale show draw check; do
     refuses "$command --known l file.toml"
@@ -202,7 +215,7 @@ done
 says 'help of watch' 0 'help watch' ''
 judge 'help of watch has its options' '--all --quiet --json --max --known --hart --page --kind ' "$(sed -n 's/^  \(--[a-z]*\) .*/\1/p' "$own/out" | tr '\n' ' ')"
 says 'help of explain' 0 'help explain' ''
-judge 'help of explain has its options' '--hart --page --kind ' "$(sed -n 's/^  \(--[a-z]*\) .*/\1/p' "$own/out" | tr '\n' ' ')"
+judge 'help of explain has its options' '--svg --hart --page --kind ' "$(sed -n 's/^  \(--[a-z]*\) .*/\1/p' "$own/out" | tr '\n' ' ')"
 says 'help of no command' 2 'help rnu' 'svsim: usage: svsim COMMAND FILE'
 says 'the version' 0 --version ''
 judge 'the version names the toolchain' one "$(tail -n 1 "$own/out")"
@@ -498,6 +511,15 @@ echo 'a trace whose story the smaller program can not hold' >"$own/file.trace"
 judge 'the whole program tells it' 'line of explain --hart 1 {} 7 ' "$("$svsim" explain "$own/file.trace" 7 --hart 1 2>/dev/null)"
 judge 'behind the smaller one' 'svsim_watch svsim' "$(tail -n 2 "$own/builds" | tr '\n' ' ' | sed 's/ $//')"
 echo 0 >"$own/watch_status"
+echo 'a trace whose verdict is drawn' >"$own/file.trace"
+before=$(builds)
+draws() { judge "$1" "line of explain --svg $2" "$(cd "$own" && "$svsim" $1 2>/dev/null)"; }
+draws 'explain --svg file.trace 7' '{} 7 '
+draws 'explain file.trace 7 --svg' '{} 7 '
+draws '--svg explain --hart 1 -- file.trace 7' '--hart 1 {} 7 '
+explains 'explain file.trace 7' '--explain 7'
+judge 'a picture is a build of its own' $((before + 3)) "$(builds)"
+judge 'of the whole program alone' 'svsim svsim svsim_watch' "$(tail -n 3 "$own/builds" | tr '\n' ' ' | sed 's/ $//')"
 
 # The status of each is kept too, and what the smaller program could not answer is left to the whole one
 echo 1 >"$own/status_of_watchall"

@@ -3,16 +3,27 @@
 use std::alloc::{AllocError, Global};
 
 /// How many characters of a title are shown.
-const TITLE_CHARACTERS: usize = 110;
+pub const TITLE_CHARACTERS: usize = 110;
 
 /// How many characters of a file's name are shown.
-const NAME_CHARACTERS: usize = 60;
+pub const NAME_CHARACTERS: usize = 60;
 
 /// The words above a picture: its title, and a line below that, which may be empty.
 #[derive(Drop)]
 pub struct Heading {
     pub title: String,
     pub subtitle: String,
+}
+
+/// What is shown of a character.
+fn shown(character: char) -> char {
+    if character == '\t' {
+        ' '
+    } else if character >= ' ' && character <= '~' {
+        character
+    } else {
+        '?'
+    }
 }
 
 /// Adds words up to a number of characters, and `..` for those beyond. Only what is printable ASCII
@@ -24,13 +35,20 @@ pub fn push_plain(text: &mut String, words: &str, most: usize) -> Result<(), All
             return text.push_str("..");
         }
         left -= 1;
-        if character == '\t' {
-            text.push(' ')?;
-        } else if character >= ' ' && character <= '~' {
-            text.push(character)?;
-        } else {
-            text.push('?')?;
+        text.push(shown(character))?;
+    }
+    Ok(())
+}
+
+/// Adds bytes as `push_plain` adds words.
+pub fn push_plain_bytes(text: &mut String, bytes: &[u8], most: usize) -> Result<(), AllocError> {
+    let mut left = most;
+    for byte in bytes {
+        if left == 0 {
+            return text.push_str("..");
         }
+        left -= 1;
+        text.push(shown(char::from(*byte)))?;
     }
     Ok(())
 }
@@ -59,7 +77,7 @@ fn first_sentence(text: &str) -> &str {
 }
 
 /// The last component of a path.
-fn last_component(path: &str) -> &str {
+pub fn last_component(path: &str) -> &str {
     match path.rsplit_once('/') {
         Some((_, name)) => name,
         None => path,

@@ -83,6 +83,15 @@ fn push_bar(svg: &mut String, class: &str, x: u64, y: u64, width: u64) -> Result
     )
 }
 
+/// Adds an entry whose shape is a bar, and whose middle is at `y`.
+pub fn push_bar_entry(svg: &mut String, class: &str, y: u64, words: &str) -> Result<(), AllocError>
+    requires above { 9 ≤ y }
+    requires bound { y < 2 ^ 41 }
+{
+    push_bar(svg, class, LEFT, y, 46)?;
+    push_text(svg, "words", Point { x: WORDS, y: y + 4 }, words)
+}
+
 /// Adds the arrow of a request.
 fn push_request(svg: &mut String, from: Point, to: Point) -> Result<(), AllocError> {
     push_arrow(svg, "request", from, LEFT + 20, to)?;

@@ -3,11 +3,14 @@
 //! Time goes down, a line a step or a walk, and each hart has a column. `run` records a scenario: which bars
 //! stand in which columns, from which row to which, and which rows an arrow joins. `picture` writes
 //! that as SVG: `layout` says where things stand, `shapes` has the elements, `style` how they look.
+//!
+//! `story` has the records of a verdict's story as plain data, and `story_picture` draws them.
 #![tactic(auto)]
 
 mod bars;
 mod columns;
 mod comments;
+mod document;
 mod file_comments;
 mod fills;
 mod heading;
@@ -23,6 +26,8 @@ mod run;
 mod shapes;
 mod sheet;
 mod step_words;
+mod story;
+mod story_picture;
 mod style;
 mod tints;
 
@@ -36,4 +41,6 @@ pub use shapes::{
     Area, push_arrow, push_dot, push_escaped, push_full_head, push_line, push_number,
     push_open_head, push_rect, push_text,
 };
+pub use story::{Story, StoryMark, StoryRecord};
+pub use story_picture::draw_story;
 pub use style::STYLE;

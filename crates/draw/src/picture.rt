@@ -5,6 +5,7 @@ ghost use Rattle.files.specs.declared.fault.Fault.TheVariants.{NoMemory};
 
 use crate::bars::{push_bar, push_flight, push_hit, push_owner};
 use crate::comments::Comments;
+use crate::document::{push_begin, push_heading, push_paper};
 use crate::file_comments::comments_of;
 use crate::heading::{Heading, push_plain};
 use crate::layout::{
@@ -15,8 +16,7 @@ use crate::legend::{KINDS, push_entry};
 use crate::record::{Line, LineKind, Record};
 use crate::rows::{push_hart, push_row, push_words};
 use crate::run::record;
-use crate::shapes::{Area, push_escaped, push_line, push_rect, push_text};
-use crate::style::STYLE;
+use crate::shapes::{Area, push_line, push_rect};
 use crate::tints::{Spaces, push_tints};
 use files::{Fault, RunScenario};
 use itoa::Buffer;
@@ -94,35 +94,18 @@ impl Picture {
         let width = self.width;
         let entries = entries_of(record);
         let height = entry_middle(record.line_count(), entries) + ENTRY_HEIGHT / 2;
-        writeln!(
-            self.svg,
-            "<svg xmlns='http://www.w3.org/2000/svg' width='{width}' height='{height}' viewBox='0 0 {width} {height}' role='img'>"
-        )?;
-        self.svg.push_str("<title>")?;
-        push_escaped(&mut self.svg, heading.title.as_str())?;
-        self.svg.push_str("</title>\n")?;
+        push_begin(&mut self.svg, width, height, heading.title.as_str())?;
         let hits = record.hits.len();
         writeln!(
             self.svg,
             "<desc>Time goes down, a row a step or a walk, and each hart has a column. Accesses that stale mappings answer: {hits}.</desc>"
         )?;
-        self.svg.push_str(STYLE)?;
-        push_rect(
+        push_paper(&mut self.svg, width, height)?;
+        push_heading(
             &mut self.svg,
-            "paper",
-            &Area {
-                at: Point { x: 0, y: 0 },
-                width,
-                height,
-            },
-        )?;
-        let at = Point { x: 16, y: 28 };
-        push_text(&mut self.svg, "title", at, heading.title.as_str())?;
-        if heading.subtitle.is_empty() {
-            return Ok(());
-        }
-        let at = Point { x: 16, y: 48 };
-        push_text(&mut self.svg, "subtitle", at, heading.subtitle.as_str())
+            heading.title.as_str(),
+            heading.subtitle.as_str(),
+        )
     }
 
     /// Adds a line of heads, above a row.

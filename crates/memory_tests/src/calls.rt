@@ -26,11 +26,12 @@ pub enum Call {
     WatchCauses,
     WatchKnown,
     Explain,
+    Picture,
 }
 
 impl Call {
     /// All of them, in the order of their lines.
-    pub const ALL: [Call; 17] = [
+    pub const ALL: [Call; 18] = [
         Call::MachineOpen,
         Call::MachineRun,
         Call::LockedCall,
@@ -48,6 +49,7 @@ impl Call {
         Call::WatchCauses,
         Call::WatchKnown,
         Call::Explain,
+        Call::Picture,
     ];
 
     /// Its name on its line.
@@ -70,6 +72,7 @@ impl Call {
             Call::WatchCauses => "watch_command_with by causes",
             Call::WatchKnown => "answer_words with a list, in JSON",
             Call::Explain => "explain_command",
+            Call::Picture => "picture_command",
         }
     }
 
@@ -93,6 +96,7 @@ impl Call {
             Call::WatchCauses => causes::watch(alloc),
             Call::WatchKnown => known::watch(rt, alloc),
             Call::Explain => stories::explain(alloc),
+            Call::Picture => stories::picture(alloc),
         }
     }
 }

@@ -25,7 +25,8 @@ const BLOCK: &str =
 /// What is printed at the end.
 const END: &str =
     "a trace:9: cause 1: user pages, first free: its flush asked for no fence on this \
-    hart; 1 finding: free 1\n8 records, 1 verdict: free 1\n";
+    hart; 1 finding: free 1\n  stale without a note: 1 finding, 1 page of 1 space, hart 1; fences \
+    asked of hart 0; reachable 1\n8 records, 1 verdict: free 1\n";
 
 /// Whether all is printed.
 fn is_whole(out: &[u8]) -> bool {

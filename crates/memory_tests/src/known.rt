@@ -27,8 +27,15 @@ const BLOCK: &str =
 
 /// What is printed at the end.
 const END: &str =
-    "{\"type\":\"total\",\"file\":\"a trace\",\"line\":9,\"cause\":1,\"kernel\":false,\
+    "{\"type\":\"finding\",\"file\":\"a trace\",\"line\":9,\"cause\":1,\"kernel\":false,\
+    \"hart\":1,\"page\":\"1000\",\"size\":\"1000\",\"frame\":\"100\",\"flags\":\"rw-u-\",\
+    \"asid\":\"1\",\"root\":\"80000\",\"stale_since\":6,\"stale_by\":null,\
+    \"reach\":\"reachable\"}\n\
+    {\"type\":\"total\",\"file\":\"a trace\",\"line\":9,\"cause\":1,\"kernel\":false,\
     \"first\":\"free\",\"reason\":\"other-hart\",\"findings\":1,\"free\":1,\"reuse\":0,\"claim\":0,\"use\":0}\n\
+    {\"type\":\"note\",\"file\":\"a trace\",\"cause\":1,\"note\":null,\"findings\":1,\
+    \"pages\":1,\"spaces\":1,\"harts\":[1],\"asked\":[0],\"used\":0,\"reachable\":1,\
+    \"not_reached\":0}\n\
     {\"type\":\"known\",\"file\":\"a list\",\"line\":2,\"findings\":0}\n\
     {\"type\":\"known\",\"file\":\"a list\",\"line\":3,\"findings\":0}\n\
     {\"type\":\"summary\",\"file\":\"a trace\",\"records\":8,\"before_line\":null,\

@@ -1,4 +1,4 @@
-//! `memory_tests`: makes seventeen calls that take memory, through which most others of the libraries
+//! `memory_tests`: makes eighteen calls that take memory, through which most others of the libraries
 //! go, and prints a line for each: whether it answered as usual, found no memory, or answered
 //! anything else. The status is 5 if one of them found no memory, else 0.
 //! `scripts/refuse_memory.sh` runs it once for each of its requests for memory, which is then

@@ -1,9 +1,9 @@
-//! A trace with a verdict, and its story.
+//! A trace with a verdict, its story, and the picture of that.
 
 use crate::causes::TRACE;
 use crate::inspections::ROOM;
 use crate::verdict::Verdict;
-use scenario::{Filter, explain_command};
+use scenario::{Filter, explain_command, picture_command};
 use std::alloc::Global;
 
 /// What is printed of line 9.
@@ -50,4 +50,30 @@ pub fn explain(alloc: Global) -> Verdict {
         return Verdict::NoMemory;
     }
     Verdict::is_usual(status == 0 && out == STORY.as_bytes() && err.is_empty())
+}
+
+/// The picture of that story. Where memory ends, nothing is printed.
+pub fn picture(alloc: Global) -> Verdict {
+    let Ok(mut out) = Vec::with_capacity(alloc, ROOM) else {
+        return Verdict::NoMemory;
+    };
+    let Ok(mut err) = Vec::with_capacity(alloc, ROOM) else {
+        return Verdict::NoMemory;
+    };
+    let input = TRACE.as_bytes();
+    let status = picture_command(
+        alloc,
+        Filter::default(),
+        9,
+        "a trace",
+        input,
+        &mut out,
+        &mut err,
+    );
+    let (out, err) = (out.as_slice(), err.as_slice());
+    if status == 5 && out.is_empty() && err == b"svsim: no memory\n".as_slice() {
+        return Verdict::NoMemory;
+    }
+    let is_whole = out.starts_with(b"<svg ") && out.ends_with(b"</svg>\n");
+    Verdict::is_usual(status == 0 && is_whole && err.is_empty())
 }

@@ -254,9 +254,9 @@ required_are_there None f options = refl
 required_are_there (Some c) None options = refl
 required_are_there (Some c) (Some f) options = refl
 
-abbrev options_by : Bool → Bool → Bool → Option Text → Option Text → Option Text → Option Text → Option Text → Option Text → GivenOptions
-options_by all quiet json hart page kind max known line =
-    record { all = all; quiet = quiet; json = json; hart = hart; page = page; kind = kind; max = max; known = known; line = line }
+abbrev options_by : Bool → Bool → Bool → Bool → Option Text → Option Text → Option Text → Option Text → Option Text → Option Text → GivenOptions
+options_by all quiet json svg hart page kind max known line =
+    record { all = all; quiet = quiet; json = json; svg = svg; hart = hart; page = page; kind = kind; max = max; known = known; line = line }
 
 -- by the row of each name
 module _ (at : Text → Option Row) (text : Text → Option Text) where
@@ -275,9 +275,9 @@ module _ (at : Text → Option Row) (text : Text → Option Text) where
   abbrev Needs : Text → Type 0
   Needs name = is_explicit (at name) ≡ is_some (text name)
 
-  options_are : ReadsFlag (codes "all") → ReadsFlag (codes "quiet") → ReadsFlag (codes "json") → Reads (codes "hart") → Reads (codes "page") → Reads (codes "kind")
+  options_are : ReadsFlag (codes "all") → ReadsFlag (codes "quiet") → ReadsFlag (codes "json") → ReadsFlag (codes "svg") → Reads (codes "hart") → Reads (codes "page") → Reads (codes "kind")
       → Reads (codes "max") → Reads (codes "known") → Reads (codes "LINE") → options_given read ≡ options_given text
-  options_are all quiet json hart page kind max known line = rw (all, quiet, json, hart, page, kind, max, known, line) refl
+  options_are all quiet json svg hart page kind max known line = rw (all, quiet, json, svg, hart, page, kind, max, known, line) refl
 
   outcome_is : Needs (codes "COMMAND") → Needs (codes "FILE") → Reads (codes "COMMAND") → Reads (codes "FILE") → options_given read ≡ options_given text → outcome ≡ asked_of text
   outcome_is has_command has_file command file options =
@@ -313,7 +313,7 @@ asked_at_end given =
     let value = λ (id : Text) (none : text_in (row_by id None) ≡ None). ap text_in (row_at_end id given) ∙ valued_by id none (find (given_by id) given) in
     let flag = λ (id : Text) (none : is_set (text_in (row_by id None)) ≡ false). ap (λ o. is_set (text_in o)) (row_at_end id given) ∙ flag_by id none (find (given_by id) given) in
     let needed = λ (id : Text) (none : is_explicit (row_by id None) ≡ false). ap is_explicit (row_at_end id given) ∙ needed_by id none (find (given_by id) given) in
-    let options = options_are (λ id. find (by id) rows) (text_of given) (flag (codes "all") refl) (flag (codes "quiet") refl) (flag (codes "json") refl)
+    let options = options_are (λ id. find (by id) rows) (text_of given) (flag (codes "all") refl) (flag (codes "quiet") refl) (flag (codes "json") refl) (flag (codes "svg") refl)
     (value (codes "hart") refl) (value (codes "page") refl) (value (codes "kind") refl) (value (codes "max") refl) (value (codes "known") refl) (value (codes "LINE") refl) in
     outcome_is (λ id. find (by id) rows) (text_of given) (needed (codes "COMMAND") refl) (needed (codes "FILE") refl)
     (value (codes "COMMAND") refl) (value (codes "FILE") refl) options

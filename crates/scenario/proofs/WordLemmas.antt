@@ -22,7 +22,7 @@ pub asked_found : (f : Found) (words : List (List ℕ)) → fault_of svsim words
 unfolding asked
 asked_found f words none rows =
     let read = first_value-rows f in
-    rw (none, ← rows, read (codes "COMMAND"), read (codes "FILE"), read (codes "all"), read (codes "quiet"), read (codes "json"), read (codes "hart"), read (codes "page"), read (codes "kind"), read (codes "max"), read (codes "known"), read (codes "LINE")) refl
+    rw (none, ← rows, read (codes "COMMAND"), read (codes "FILE"), read (codes "all"), read (codes "quiet"), read (codes "json"), read (codes "svg"), read (codes "hart"), read (codes "page"), read (codes "kind"), read (codes "max"), read (codes "known"), read (codes "LINE")) refl
 
 -- ---- what is read off the words
 

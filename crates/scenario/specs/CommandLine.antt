@@ -74,7 +74,7 @@ valued name = record { name = name; takes_value = true }
 -- of the options
 abbrev pub option_names : List OptionName
 option_names = flag (codes "all") ∷ flag (codes "quiet") ∷ flag (codes "json") ∷ valued (codes "hart")
-    ∷ valued (codes "page") ∷ valued (codes "kind") ∷ valued (codes "max") ∷ valued (codes "known") ∷ []
+    ∷ valued (codes "page") ∷ valued (codes "kind") ∷ valued (codes "max") ∷ valued (codes "known") ∷ flag (codes "svg") ∷ []
 
 -- ---- what clap takes
 

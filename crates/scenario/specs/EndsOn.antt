@@ -3,13 +3,13 @@
 use Rattle.std.specs.Prelude.{ℕ, List, Option, None, Some, Result, Ok, Err}
 use Rattle.std.specs.Io.KnownBytes.{Keeps}
 use Rattle.scenario.specs.declared.task.Task.{Task}
-use Rattle.scenario.specs.declared.task.Task.TheVariants.{Plain, Live, Watch, Explain}
+use Rattle.scenario.specs.declared.task.Task.TheVariants.{Plain, Live, Watch, Explain, Picture}
 use Rattle.scenario.specs.Command.{Ending, Ends, Reports, unreadable}
 use Rattle.scenario.specs.CommandLine.{Asked}
 use Rattle.scenario.specs.Commands.{live, meaning_of}
 use Rattle.scenario.specs.Input.{AreLeft}
 use Rattle.scenario.specs.KnownFiles.{ReadsList}
-use Rattle.scenario.specs.Watches.{EndsExplain, EndsWatch}
+use Rattle.scenario.specs.Watches.{EndsExplain, EndsPicture, EndsWatch}
 use Rattle.watch_causes.specs.KnownFindings.{KnownEntry}
 use Rattle.watch_report.specs.Explaining.{asked_of}
 use Rattle.watch_report.specs.KnownLists.{KnownIn, list_of, none_known}
@@ -26,6 +26,8 @@ EndsTask (Watch options) known file bytes status out_old out_new err_old err_new
     EndsWatch (told_of options known file) bytes status out_old out_new err_old err_new
 EndsTask (Explain filter line) known file bytes status out_old out_new err_old err_new =
     EndsExplain (asked_of file line filter) bytes status out_old out_new err_old err_new
+EndsTask (Picture filter line) known file bytes status out_old out_new err_old err_new =
+    EndsPicture (asked_of file line filter) bytes status out_old out_new err_old err_new
 
 -- without a reader the file is unreadable, and nothing is written of it
 abbrev pub EndsOn : {R : Type 0} → (R → Option (List ℕ)) → Task → KnownIn → List ℕ → Option R → ℕ

@@ -1,5 +1,5 @@
 -- What a command does with a file, by the other words that it is given.
-use Rattle.std.specs.Prelude.{ℕ, Bool, ◌&&◌, ◌==◌, ◌^◌, nat_lt, not, false, List, length, codes, Option, Some, None, is_some, option_and_then, option_map, if◌then◌else◌}
+use Rattle.std.specs.Prelude.{ℕ, Bool, ◌&&◌, ◌==◌, ◌^◌, nat_lt, not, false, List, length, codes, Option, Some, None, option_and_then, option_map, if◌then◌else◌}
 use Rattle.std.specs.Char.{is_ascii_digit}
 use Rattle.std.specs.List.{list_all}
 use Rattle.std.specs.Option.{is_none, option_map_or}
@@ -9,7 +9,7 @@ use Rattle.scenario.specs.declared.commands.Command.{Command}
 use Rattle.scenario.specs.declared.commands.Command.TheVariants as command
 use Rattle.scenario.specs.declared.task.Given.{Given}
 use Rattle.scenario.specs.declared.task.Task.{Task}
-use Rattle.scenario.specs.declared.task.Task.TheVariants.{Plain, Live, Watch, Explain}
+use Rattle.scenario.specs.declared.task.Task.TheVariants.{Plain, Live, Watch, Explain, Picture}
 use Rattle.watch_report.specs.declared.detail.Detail.{Detail}
 use Rattle.watch_report.specs.declared.detail.Detail.TheVariants.{Causes, Counts, Verdicts}
 use Rattle.watch_report.specs.declared.filter.Filter.{Filter}
@@ -22,6 +22,7 @@ pub record GivenOptions : Type 0 where
   pub all : Bool
   pub quiet : Bool
   pub json : Bool
+  pub svg : Bool
   pub hart : Option (List ℕ)
   pub page : Option (List ℕ)
   pub kind : Option (List ℕ)
@@ -34,6 +35,7 @@ options_view given = record {
   all = given.all;
   quiet = given.quiet;
   json = given.json;
+  svg = given.svg;
   hart = option_map (λ text. text.now) given.hart;
   page = option_map (λ text. text.now) given.page;
   kind = option_map (λ text. text.now) given.kind;
@@ -47,6 +49,7 @@ no_options = record {
   all = false;
   quiet = false;
   json = false;
+  svg = false;
   hart = None;
   page = None;
   kind = None;
@@ -64,9 +67,13 @@ abbrev pub has_none_of_watch : GivenOptions → Bool
 has_none_of_watch options = not options.all && (not options.quiet && (not options.json
     && (is_none options.max && is_none options.known)))
 
+-- none of what `explain` alone takes
+abbrev pub has_none_of_explain : GivenOptions → Bool
+has_none_of_explain options = not options.svg && is_none options.line
+
 abbrev pub has_none : GivenOptions → Bool
 has_none options = has_none_of_watch options && (is_none options.hart && (is_none options.page
-    && (is_none options.kind && is_none options.line)))
+    && (is_none options.kind && has_none_of_explain options)))
 
 -- the flag with this value was given
 abbrev pub is_set : Option (List ℕ) → Bool
@@ -78,6 +85,7 @@ options_given named = record {
   all = is_set (named (codes "all"));
   quiet = is_set (named (codes "quiet"));
   json = is_set (named (codes "json"));
+  svg = is_set (named (codes "svg"));
   hart = named (codes "hart");
   page = named (codes "page");
   kind = named (codes "kind");
@@ -141,18 +149,24 @@ watch_by_max options None = watch_at_most options None
 watch_by_max options (Some text) =
     option_and_then (λ most. watch_at_most options (Some most)) (number_in text)
 
--- `watch` takes all options, and no LINE
+-- `watch` takes all options but `--svg`, and no LINE
 abbrev pub watch_in : GivenOptions → Option Task
-watch_in options = if is_some options.line then None else watch_by_max options options.max
+watch_in options =
+    if has_none_of_explain options then watch_by_max options options.max else None
 
-abbrev pub explain_of : Option Filter → Option ℕ → Option Task
-explain_of (Some filter) (Some line) = Some (Explain filter line)
-explain_of _ _ = None
+-- in text, or as a picture
+abbrev pub story_task : Bool → Filter → ℕ → Task
+story_task svg filter line = if svg then Picture filter line else Explain filter line
 
--- `explain` wants a LINE, and takes the options of the filter
+abbrev pub explain_of : Bool → Option Filter → Option ℕ → Option Task
+explain_of svg (Some filter) (Some line) = Some (story_task svg filter line)
+explain_of svg _ _ = None
+
+-- `explain` wants a LINE, and takes `--svg` and the options of the filter
 abbrev pub explain_in : GivenOptions → Option Task
 explain_in options =
-    if has_none_of_watch options then explain_of (filter_of options) (line_of options) else None
+    if has_none_of_watch options then explain_of options.svg (filter_of options) (line_of options)
+    else None
 
 -- the others take a file alone
 abbrev pub task_of : GivenOptions → Command → Option Task

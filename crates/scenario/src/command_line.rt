@@ -12,7 +12,7 @@ ghost use Rattle.scenario.specs.CommandLine.{AsksFor, ask_view, asked, asked_in,
 ghost use Rattle.watch_report.specs.KnownLists.{known_in};
 
 use crate::commands::command_of;
-use crate::explain_program::explain_command;
+use crate::explain_program::{explain_command, picture_command};
 use crate::known_file::{no_list, read_list};
 use crate::live_program::live_command;
 use crate::output::write_whole;
@@ -117,7 +117,8 @@ fn look_up<'a>(alloc: Global, words: &'a [String]) -> Result<Option<Ask<'a>>, Al
 /// What the words ask for, of which the first is the program's name: a command that is known and a
 /// FILE, and of `explain` a LINE, a decimal number from 1. `watch` and `explain` take the options
 /// `--hart H`, `--page VA` and `--kind KIND`, and `watch` takes `--all` or `--quiet`, `--json`,
-/// `--max N`, a decimal number, and `--known FILE`. `--` ends the options. Refused with `Usage` if they ask for nothing, and with `NoMemory` if memory runs out.
+/// `--max N`, a decimal number, and `--known FILE`. `explain` takes `--svg`. `--` ends the options.
+/// Refused with `Usage` if they ask for nothing, and with `NoMemory` if memory runs out.
 pub fn ask_of<'a>(alloc: Global, words: &'a [String]) -> Result<Ask<'a>, Trouble>
     ensures { AsksFor (map string_bytes words.now) result }
 {
@@ -154,6 +155,9 @@ fn on_file<T: Threads + Wait + Sync, R: Read + Drop, W: Write, E: Write, G: Gate
         }
         Task::Explain(filter, line) => {
             explain_command(alloc, filter, line, ask.file, reader, out, err)
+        }
+        Task::Picture(filter, line) => {
+            picture_command(alloc, filter, line, ask.file, reader, out, err)
         }
     }
 }

@@ -1,10 +1,11 @@
 //! The command `explain`, over any reader and writers.
 ghost use Rattle.std.specs.Prelude.{◌≡◌, List, ℕ};
 ghost use Rattle.scenario.specs.Input.{AreLeft};
-ghost use Rattle.scenario.specs.Watches.{EndsExplain, ending_of_story, ending_of_told};
+ghost use Rattle.scenario.specs.Watches.{EndsExplain, EndsPicture, ending_of_story, ending_of_told};
 ghost use Rattle.watch_report.specs.Explaining.{asked_of};
 
 use crate::program::{DONE, report};
+use crate::story_picture::draw_trace;
 use crate::trouble::Trouble;
 use files::Fault;
 use std::alloc::Global;
@@ -52,6 +53,27 @@ pub fn explain_command<R: Read + Drop, W: Write, E: Write>(
         (W.contents out.old) (W.contents out.new) (E.contents err.old) (E.contents err.new) }
 {
     match told(line, explain_trace(alloc, filter, line, file, input, out)) {
+        None => DONE,
+        Some(trouble) => report(alloc, file, &trouble, err),
+    }
+}
+
+/// Does `explain --svg` on the trace that `input` reads, and answers the status of the program: as
+/// `explain_command`, with a picture in place of the story.
+pub fn picture_command<R: Read + Drop, W: Write, E: Write>(
+    alloc: Global,
+    filter: Filter,
+    line: u64,
+    file: &str,
+    input: R,
+    out: &mut W,
+    err: &mut E,
+) -> u8
+    ensures { (text : List ℕ) × AreLeft (R.remaining input) text
+        × EndsPicture (asked_of file.now line filter) text result
+        (W.contents out.old) (W.contents out.new) (E.contents err.old) (E.contents err.new) }
+{
+    match told(line, draw_trace(alloc, filter, line, file, input, out)) {
         None => DONE,
         Some(trouble) => report(alloc, file, &trouble, err),
     }

@@ -1,8 +1,8 @@
 //! Scenario files: from a file's bytes to the lines that `svsim` prints.
 //!
 //! `walk_text` and `run_text` answer a text, `command` does the whole of a command over any reader
-//! and writers, `live_command` that of `live`, whose harts are threads, `watch_command_with` and
-//! `explain_command` those of `watch` and `explain`, and `answer_words` is the whole program over the
+//! and writers, `live_command` that of `live`, whose harts are threads, `watch_command_with`,
+//! `explain_command` and `picture_command` those of `watch` and `explain`, and `answer_words` is the whole program over the
 //! words of the command line. But for `watch` and `explain` a text is read and checked whole before its
 //! first line is written.
 #![tactic(auto)]
@@ -27,6 +27,7 @@ mod progress;
 mod shown;
 mod stale_items;
 mod stale_texts;
+mod story_picture;
 mod system;
 mod task;
 mod texts;
@@ -38,7 +39,7 @@ mod words;
 pub use command_line::{Ask, NoWords, answer_words, ask_of};
 pub use commands::{Command, Which};
 pub use ending_laws::{what_a_status_says, worked_faults, worked_reports};
-pub use explain_program::explain_command;
+pub use explain_program::{explain_command, picture_command};
 pub use files::{
     Fault, first_wrong_step, least_unknown_key, mode_is_sv39_by_default, worked_modes, worked_turns,
 };
@@ -65,5 +66,5 @@ pub use watch_report::{
 };
 pub use word_laws::{
     words_are_read, worked_explanations, worked_filters, worked_forms, worked_options,
-    worked_refusals, worked_texts, worked_words, worked_wrong_forms,
+    worked_pictures, worked_refusals, worked_texts, worked_words, worked_wrong_forms,
 };

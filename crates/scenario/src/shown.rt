@@ -87,7 +87,7 @@ Status 0: nothing is wrong.
 const WATCH: &str = "\
 svsim watch TRACE reads what a kernel did to its page tables, its satp and its TLBs. A verdict is a point where a hart may still use a
 translation that the kernel takes for gone. The causes of the verdicts are printed: each with its first verdict, and all with their
-counts at the end. TRACE is a file, or - for standard input.
+counts and the notes of their stores at the end. TRACE is a file, or - for standard input.
 
   svsim watch examples/watch/left-out-hart.trace
 
@@ -100,9 +100,10 @@ counts at the end. TRACE is a file, or - for standard input.
   --page VA     takes those of pages that VA lies in, in hexadecimal without 0x
   --kind KIND   takes those of one kind: claim, free, reuse, use, or kernel-claim and so on
 
-What is counted, and the status, is of the verdicts that are taken. A line of FILE is OWNER FIRST REASON [START SIZE] [@NOTE]: user or
-kernel; the first verdict of a finding; no-flush, no-fence, other-hart, other-asid, other-page or not-done; addresses of which one lies in
-the page, in hexadecimal; how the note of the record begins that made the page stale. - is any verdict or reason. A line that begins with # is a comment.
+What is counted, and the status, is of the verdicts that are taken. A line of FILE is OWNER FIRST REASON [REACH] [START SIZE] [@NOTE]:
+user or kernel; the first verdict of a finding; no-flush, no-fence, other-hart, other-asid, other-page or not-done; used, reachable or
+not-reached, for which TRACE is read whole first; addresses of which one lies in the page, in hexadecimal; how the note of the record
+begins that made the page stale. - is any verdict or reason. A line that begins with # is a comment.
 docs/YOUR-KERNEL.md tells how to get a trace. Status 0: no verdict. 1: some. 3: a wrong line, and no verdict before it.
 ";
 
@@ -112,11 +113,12 @@ Each comes after a comment, which has its line and what it does. TRACE is a file
 
   svsim explain examples/watch/left-out-hart.trace 15
 
+  --svg        prints a picture of them as SVG: a row a record, a column a hart
   --hart H     takes the verdicts of one hart alone, 0 to 63
   --page VA    takes those of pages that VA lies in, in hexadecimal without 0x
   --kind KIND  takes those of one kind: claim, free, reuse, use, or kernel-claim and so on
 
-Of several verdicts the first that svsim watch --all prints is told. What is printed is a trace: svsim watch finds the same verdict there.
+Of several verdicts the first that svsim watch --all prints is told. Without --svg a trace is printed: svsim watch finds the same verdict there.
 Status 0: done. 1: the line has no such verdict. 3: a wrong line up to that one.
 ";
 

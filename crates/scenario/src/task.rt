@@ -3,7 +3,7 @@ ghost use Rattle.std.specs.Prelude.{◌≡◌, option_map};
 ghost use Rattle.std.specs.Char.{is_ascii_digit};
 ghost use Rattle.std.specs.List.{list_all};
 ghost use Rattle.clap.specs.Words.{first_value, found_of};
-ghost use Rattle.scenario.specs.Tasks.{detail_of, explain_in, filter_of, form_of, has_none, has_none_of_watch, is_decimal, is_set, line_in, line_of, number_in, options_given, options_view, task_of, watch_at_most, watch_in};
+ghost use Rattle.scenario.specs.Tasks.{detail_of, explain_in, filter_of, form_of, has_none, has_none_of_explain, has_none_of_watch, is_decimal, is_set, line_in, line_of, number_in, options_given, options_view, story_task, task_of, watch_at_most, watch_in};
 
 use crate::commands::{Command, Which};
 use clap::ArgMatches;
@@ -20,6 +20,8 @@ pub enum Task {
     Watch(Options),
     /// Tells the first verdict at this line of a trace that the filter takes.
     Explain(Filter, u64),
+    /// Draws that.
+    Picture(Filter, u64),
 }
 
 /// The flags that were given, and the values of LINE and the other options.
@@ -28,6 +30,7 @@ pub(crate) struct Given<'a> {
     all: bool,
     quiet: bool,
     json: bool,
+    svg: bool,
     hart: Option<&'a str>,
     page: Option<&'a str>,
     kind: Option<&'a str>,
@@ -94,6 +97,17 @@ fn read_line_number(text: &str) -> Option<u64>
     Some(number)
 }
 
+/// In text, or as a picture.
+fn story_task(svg: bool, filter: Filter, line: u64) -> Task
+    ensures { result ≡ story_task svg filter line }
+{
+    if svg {
+        Task::Picture(filter, line)
+    } else {
+        Task::Explain(filter, line)
+    }
+}
+
 impl<'a> Given<'a> {
     pub(crate) fn new(matches: &ArgMatches<'a>) -> Given<'a>
         ensures { options_view result ≡ options_given (first_value (found_of matches.now)) }
@@ -102,6 +116,7 @@ impl<'a> Given<'a> {
             all: is_set(matches.get_str("all")),
             quiet: is_set(matches.get_str("quiet")),
             json: is_set(matches.get_str("json")),
+            svg: is_set(matches.get_str("svg")),
             hart: matches.get_str("hart"),
             page: matches.get_str("page"),
             kind: matches.get_str("kind"),
@@ -118,6 +133,13 @@ impl<'a> Given<'a> {
         !self.all && !self.quiet && !self.json && self.max.is_none() && self.known.is_none()
     }
 
+    /// None of what `explain` alone takes.
+    fn has_none_of_explain(&self) -> bool
+        ensures { result ≡ has_none_of_explain (options_view self.now) }
+    {
+        !self.svg && self.line.is_none()
+    }
+
     fn has_none(&self) -> bool
         ensures { result ≡ has_none (options_view self.now) }
     {
@@ -125,7 +147,7 @@ impl<'a> Given<'a> {
             && self.hart.is_none()
             && self.page.is_none()
             && self.kind.is_none()
-            && self.line.is_none()
+            && self.has_none_of_explain()
     }
 
     /// What is printed. `--all` and `--quiet` don't go together.
@@ -187,11 +209,11 @@ impl<'a> Given<'a> {
         }))
     }
 
-    /// `watch` takes all options, and no LINE.
+    /// `watch` takes all options but `--svg`, and no LINE.
     fn watch(&self) -> Option<Task>
         ensures { result ≡ watch_in (options_view self.now) }
     {
-        if self.line.is_some() {
+        if !self.has_none_of_explain() {
             return None;
         }
         let Some(text) = self.max else {
@@ -203,7 +225,7 @@ impl<'a> Given<'a> {
         self.watch_at_most(Some(most))
     }
 
-    /// `explain` wants a LINE, and takes the options of the filter.
+    /// `explain` wants a LINE, and takes `--svg` and the options of the filter.
     fn explain(&self) -> Option<Task>
         ensures { result ≡ explain_in (options_view self.now) }
     {
@@ -216,7 +238,7 @@ impl<'a> Given<'a> {
         let Some(line) = self.line() else {
             return None;
         };
-        Some(Task::Explain(filter, line))
+        Some(story_task(self.svg, filter, line))
     }
 
     /// What the command does, if it takes what was given, and that is right.

@@ -3,7 +3,7 @@
 ghost use Rattle.std.specs.Prelude.{◌≡◌, ℕ, List, [], ◌∷◌, true, false, Some, None, codes};
 ghost use Rattle.std.specs.List.{list_all};
 ghost use Rattle.std.specs.Str.{is_utf8};
-ghost use Rattle.scenario.specs.declared.task.Task.TheVariants.{Explain, Live, Plain, Watch};
+ghost use Rattle.scenario.specs.declared.task.Task.TheVariants.{Explain, Live, Picture, Plain, Watch};
 ghost use Rattle.scenario.specs.declared.commands.Which.TheVariants.{Draw, Run, Show, Stale, Walk};
 ghost use Rattle.watch_report.specs.declared.detail.Detail.TheVariants.{Causes, Counts, Verdicts};
 ghost use Rattle.watch.specs.declared.trace.Verdict.TheVariants.{Free, Used};
@@ -324,6 +324,35 @@ pub fn worked_explanations()
     ensures line_of_run { asked (codes "svsim" ∷ codes "run" ∷ codes "f" ∷ codes "7" ∷ []) ≡ None }
     ensures line_as_option { asked (codes "svsim" ∷ codes "explain" ∷ codes "t" ∷ codes "--LINE=7"
         ∷ []) ≡ None }
+{}
+
+/// `--svg`, of `explain` alone.
+pub fn worked_pictures()
+    ensures svg { asked (codes "svsim" ∷ codes "explain" ∷ codes "--svg" ∷ codes "t" ∷ codes "7"
+        ∷ []) ≡ Some (asking (Picture no_filter 7) (codes "t")) }
+    ensures svg_first { asked (codes "svsim" ∷ codes "--svg" ∷ codes "explain" ∷ codes "-"
+        ∷ codes "7" ∷ []) ≡ Some (asking (Picture no_filter 7) (codes "-")) }
+    ensures svg_last { asked (codes "svsim" ∷ codes "explain" ∷ codes "t" ∷ codes "7"
+        ∷ codes "--svg" ∷ []) ≡ Some (asking (Picture no_filter 7) (codes "t")) }
+    ensures svg_and_filters { asked (codes "svsim" ∷ codes "explain" ∷ codes "--hart=2"
+        ∷ codes "t" ∷ codes "--svg" ∷ codes "7" ∷ codes "--kind" ∷ codes "use" ∷ [])
+        ≡ Some (asking (Picture (of_hart 2 (of_kind false Used no_filter)) 7) (codes "t")) }
+    ensures svg_as_file { asked (codes "svsim" ∷ codes "explain" ∷ codes "--" ∷ codes "--svg"
+        ∷ codes "7" ∷ []) ≡ Some (asking (Explain no_filter 7) (codes "--svg")) }
+    ensures svg_without_line { asked (codes "svsim" ∷ codes "explain" ∷ codes "--svg" ∷ codes "t"
+        ∷ []) ≡ None }
+    ensures svg_twice { asked (codes "svsim" ∷ codes "explain" ∷ codes "--svg" ∷ codes "--svg"
+        ∷ codes "t" ∷ codes "7" ∷ []) ≡ None }
+    ensures svg_with_value { asked (codes "svsim" ∷ codes "explain" ∷ codes "--svg=yes"
+        ∷ codes "t" ∷ codes "7" ∷ []) ≡ None }
+    ensures part_of_svg { asked (codes "svsim" ∷ codes "explain" ∷ codes "--sv" ∷ codes "t"
+        ∷ codes "7" ∷ []) ≡ None }
+    ensures svg_and_json { asked (codes "svsim" ∷ codes "explain" ∷ codes "--svg"
+        ∷ codes "--json" ∷ codes "t" ∷ codes "7" ∷ []) ≡ None }
+    ensures svg_of_watch { asked (codes "svsim" ∷ codes "watch" ∷ codes "--svg" ∷ codes "t" ∷ [])
+        ≡ None }
+    ensures svg_of_draw { asked (codes "svsim" ∷ codes "draw" ∷ codes "f" ∷ codes "--svg" ∷ [])
+        ≡ None }
 {}
 
 /// The text that `clap` gives to an option, right or wrong.

@@ -1,13 +1,13 @@
 //! The folders below `cases` that are named as a command: its answer to each `NAME.toml`, of `watch`
-//! to each `NAME.trace`, stands beside it.
+//! and `explain` to each `NAME.trace`, stands beside it.
 use crate::program::{Outcome, answer};
 use crate::tally::Tally;
 use std::sync::Wait;
 use std::thread::Threads;
 use std::{fs, io};
 
-pub const FOLDERS: [&str; 8] = [
-    "check", "draw", "live", "run", "show", "stale", "walk", "watch",
+pub const FOLDERS: [&str; 9] = [
+    "check", "draw", "explain", "live", "run", "show", "stale", "walk", "watch",
 ];
 
 /// The names of the files of a folder, in order.
@@ -42,7 +42,11 @@ fn text_of(rt: &HostRuntime, folder: &str, name: &str, ending: &str) -> io::Resu
 
 /// The ending of the files that the folder's command reads.
 fn read_ending(folder: &str) -> &'static str {
-    if folder == "watch" { "trace" } else { "toml" }
+    if folder == "watch" || folder == "explain" {
+        "trace"
+    } else {
+        "toml"
+    }
 }
 
 /// The status that is wanted: a written one, or else 1 if lines of `stale` name a use, or 0.
@@ -71,6 +75,17 @@ fn has_counts(printed: &str, counts: &str) -> bool {
     !counts.is_empty()
 }
 
+/// The words behind a command on a file of the folder: its name, and of `explain` the number of its last
+/// line.
+fn words_for(rt: &HostRuntime, folder: &str, name: &str) -> io::Result<String> {
+    let ending = read_ending(folder);
+    if folder != "explain" {
+        return Ok(format!(in rt.alloc(); "{name}.{ending}")?);
+    }
+    let lines = text_of(rt, folder, name, ending)?.lines().count();
+    Ok(format!(in rt.alloc(); "{name}.{ending} {lines}")?)
+}
+
 /// What the program answers to a command on a file of the folder.
 fn outcome_of<T: Threads + Wait + Sync>(
     rt: &HostRuntime,
@@ -81,9 +96,8 @@ fn outcome_of<T: Threads + Wait + Sync>(
 ) -> io::Result<Outcome> {
     let alloc = rt.alloc();
     let below = format!(in alloc; "cases/{folder}")?;
-    let ending = read_ending(folder);
-    let file = format!(in alloc; "{name}.{ending}")?;
-    answer(rt, threads, below.as_str(), command, file.as_str())
+    let words = words_for(rt, folder, name)?;
+    answer(rt, threads, below.as_str(), command, words.as_str())
 }
 
 /// Whether a command on a file of the folder prints what stands in `NAME.ENDING`, with the status of
@@ -106,10 +120,10 @@ fn is_answered<T: Threads + Wait + Sync>(
 
 /// The command whose lines are counted.
 fn counted_command(folder: &str) -> &str {
-    if folder == "watch" {
-        "watch --all"
-    } else {
-        folder
+    match folder {
+        "watch" => "watch --all",
+        "explain" => "explain --svg",
+        _ => folder,
     }
 }
 

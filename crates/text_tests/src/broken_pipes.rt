@@ -2,7 +2,7 @@
 use crate::ends::{AtEnd, Narrow, Pieces, status_of};
 use crate::readers_and_writers::ALL;
 use crate::samples::{TRACE, VERDICTS};
-use scenario::{Filter, explain_command, watch_command};
+use scenario::{Filter, explain_command, picture_command, watch_command};
 use std::test::Fail;
 
 /// A trace that is judged.
@@ -166,6 +166,38 @@ fn writers_of_explain(rt: HostRuntime) -> Result<(), Fail> {
             };
             assert!(rt; status == wanted, "{room}");
             assert!(rt; out.held.as_slice() == &STORY.as_bytes()[..room]);
+            assert!(rt; err.held.as_slice() == line.as_bytes());
+        }
+    }
+    Ok(())
+}
+
+/// So does `explain --svg`, of which a beginning of the picture is written.
+#[test]
+fn writers_of_pictures(rt: HostRuntime) -> Result<(), Fail> {
+    let alloc = rt.alloc();
+    let input = WRONG_LINE_AFTER_A_VERDICT.as_bytes();
+    for room in [0, 1, 4000] {
+        for at_end in [AtEnd::BreaksPipe, AtEnd::Fails, AtEnd::TakesNothing] {
+            let mut out = Narrow::new(alloc, 7, room, at_end);
+            let mut err = Narrow::ample(alloc);
+            let reader = Pieces::whole(input);
+            let status = picture_command(
+                alloc,
+                Filter::default(),
+                9,
+                "a trace",
+                reader,
+                &mut out,
+                &mut err,
+            );
+            let (wanted, line) = if at_end == AtEnd::BreaksPipe {
+                (0, "")
+            } else {
+                (4, "svsim: output failed\n")
+            };
+            assert!(rt; status == wanted, "{room}");
+            assert!(rt; out.held.len() == room);
             assert!(rt; err.held.as_slice() == line.as_bytes());
         }
     }

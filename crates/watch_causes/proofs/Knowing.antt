@@ -20,15 +20,15 @@ if-fine (Err e) failed is fine done = absurd (let never : true ≡ false = sym i
 
 -- ---- the order of findings tells them apart
 
-then-of : (o p : Ordering) (a b : Bool) → is_eq o ≡ a → is_eq p ≡ b → is_eq (ordering_then o p) ≡ (a && b)
+pub then-of : (o p : Ordering) (a b : Bool) → is_eq o ≡ a → is_eq p ≡ b → is_eq (ordering_then o p) ≡ (a && b)
 then-of Less p a b first rest = ap (λ v. v && b) first
 then-of Equal p a b first rest = rest ∙ ap (λ v. v && b) first
 then-of Greater p a b first rest = ap (λ v. v && b) first
 
-is-same : (a b : ℕ) → is_eq (nat_cmp a b) ≡ (a == b)
+pub is-same : (a b : ℕ) → is_eq (nat_cmp a b) ≡ (a == b)
 is-same a b = grind (arith, nat_tests)
 
-of-bools : (a b : Bool) → is_eq (bool_cmp a b) ≡ is_same a b
+pub of-bools : (a b : Bool) → is_eq (bool_cmp a b) ≡ is_same a b
 of-bools true true = refl
 of-bools true false = refl
 of-bools false true = refl

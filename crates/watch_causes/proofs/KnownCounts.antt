@@ -9,7 +9,7 @@ use Rattle.std.proofs.lemmas.List.Quantifiers.{position-Some}
 use Rattle.std.proofs.lemmas.List.Sums.{sum_by-set}
 use Rattle.std.proofs.lemmas.Bool.Decides.{nat_tests}
 use Rattle.watch_causes.specs.declared.known.Known.{Known}
-use Rattle.watch_causes.specs.KnownFindings.{KnownEntry, Sourced, begins, counted_at, counts_of, entry_of, is_place, known_count, known_entry, known_findings, matches}
+use Rattle.watch_causes.specs.KnownFindings.{KnownEntry, Sourced, begins, counted_at, counts_of, entry_of, is_place, known_count, known_findings, matches}
 use Rattle.watch_causes.specs.Tallies.{more_if}
 
 pub no-counts : (base : ℕ) (known : List KnownEntry) → replicate {A = ℕ} (length known) 0 ≡ map (λ (e : ℕ × KnownEntry). 0) (enumerate_from base known)
@@ -76,6 +76,9 @@ entry-within (k ∷ known) verdicts v p is =
     let same = length-counts (λ n. known_findings (k ∷ known) n verdicts) 0 (k ∷ known) in
     omega arith
 
+some-of : (n : ℕ) → (n == 0) ≡ false → 0 < n
+some-of n is = grind (arith, nat_tests)
+
 pub counts_add_up : (known : List KnownEntry) (verdicts : List Sourced) → sum (counts_of known verdicts) ≡ known_count known verdicts
 counts_add_up known [] = ap sum (sym (no-counts 0 known)) ∙ grind (arith, common_steps)
 counts_add_up known (v ∷ verdicts) =
@@ -93,25 +96,23 @@ counts_add_up known (v ∷ verdicts) =
 
 -- ---- the list of the program
 
-place-of-entries : (v : Sourced) (known : List Known) → position_or_len (λ k. matches (known_entry k) v) known ≡ position_or_len (λ entry. matches entry v) (map known_entry known)
-place-of-entries v [] = refl
-place-of-entries v (k ∷ known) = ap (λ n. cond (not (matches (known_entry k) v)) (1 + n) 0) (place-of-entries v known)
+module _ (g : Known → KnownEntry) where
+  place-of-entries : (v : Sourced) (known : List Known) → position_or_len (λ k. matches (g k) v) known ≡ position_or_len (λ entry. matches entry v) (map g known)
+  place-of-entries v [] = refl
+  place-of-entries v (k ∷ known) = ap (λ n. cond (not (matches (g k) v)) (1 + n) 0) (place-of-entries v known)
 
-entry-count : (known : List Known) → length known ≡ length (map known_entry known)
-entry-count [] = refl
-entry-count (k ∷ known) = ap suc (entry-count known)
+  entry-count : (known : List Known) → length known ≡ length (map g known)
+  entry-count [] = refl
+  entry-count (k ∷ known) = ap suc (entry-count known)
 
-pub entry-of-entries : (v : Sourced) (known : List Known) → position (λ k. matches (known_entry k) v) known ≡ entry_of (map known_entry known) v
-entry-of-entries v known =
-    ap (λ n. cond (nat_lt n (length known)) (Some n) None) (place-of-entries v known)
-    ∙ ap (λ n. cond (nat_lt (position_or_len (λ entry. matches entry v) (map known_entry known)) n) (Some (position_or_len (λ entry. matches entry v) (map known_entry known))) None) (entry-count known)
+  pub entry-of-entries : (v : Sourced) (known : List Known) → position (λ k. matches (g k) v) known ≡ entry_of (map g known) v
+  entry-of-entries v known =
+      ap (λ n. cond (nat_lt n (length known)) (Some n) None) (place-of-entries v known)
+      ∙ ap (λ n. cond (nat_lt (position_or_len (λ entry. matches entry v) (map g known)) n) (Some (position_or_len (λ entry. matches entry v) (map g known))) None) (entry-count known)
 
-some-of : (n : ℕ) → (n == 0) ≡ false → 0 < n
-some-of n is = grind (arith, nat_tests)
+  pub some-entry : (len : ℕ) (known : List Known) (entries : List KnownEntry) → len ≡ length known → map g known ≡ entries → (len == 0) ≡ false → 0 < length entries
+  some-entry len known entries count same is =
+      subst (λ (n : ℕ). 0 < n) (count ∙ (entry-count known ∙ ap length same)) (some-of len is)
 
-pub some-entry : (len : ℕ) (known : List Known) (entries : List KnownEntry) → len ≡ length known → map known_entry known ≡ entries → (len == 0) ≡ false → 0 < length entries
-some-entry len known entries count same is =
-    subst (λ (n : ℕ). 0 < n) (count ∙ (entry-count known ∙ ap length same)) (some-of len is)
-
-pub no-counts-of : (known : List Known) → replicate {A = ℕ} (length known) 0 ≡ counts_of (map known_entry known) []
-no-counts-of known = ap (λ n. replicate {A = ℕ} n 0) (entry-count known) ∙ no-counts 0 (map known_entry known)
+  pub no-counts-of : (known : List Known) → replicate {A = ℕ} (length known) 0 ≡ counts_of (map g known) []
+  no-counts-of known = ap (λ n. replicate {A = ℕ} n 0) (entry-count known) ∙ no-counts 0 (map g known)

@@ -12,4 +12,13 @@ pub mod WorkedStories
 pub mod Apart
 pub mod FirstVerdicts
 pub mod KnownCounts
+pub mod KnownReaching
 pub mod WorkedKnown
+pub mod Masks
+pub mod OpenFences
+pub mod Reaching
+pub mod Returning
+pub mod WorkedReaches
+pub mod Beginning
+pub mod FencedHarts
+pub mod Taken

@@ -25,11 +25,11 @@ itself-asks : (hart : ℕ) (r : Record) → fences_itself hart r ≡ true → as
 itself-asks hart (Fence of rs1 rs2) is = refl
 itself-asks hart _ is = absurd (true≢false (sym is))
 
-others-asks : (hart : ℕ) (r : Record) → asks_others hart r ≡ true → asks_for_fence r ≡ true
+pub others-asks : (hart : ℕ) (r : Record) → asks_others hart r ≡ true → asks_for_fence r ≡ true
 others-asks hart (RemoteBegin of token fence) is = refl
 others-asks hart _ is = absurd (true≢false (sym is))
 
-asked-asks : (others : Bool) (flusher hart : ℕ) (r : Record) → is_asked others flusher hart r ≡ true → asks_for_fence r ≡ true
+pub asked-asks : (others : Bool) (flusher hart : ℕ) (r : Record) → is_asked others flusher hart r ≡ true → asks_for_fence r ≡ true
 asked-asks others flusher hart r is =
     elim (or_cases (fences_itself flusher r) _ is) [
       | inl own ↦ itself-asks flusher r own
@@ -143,11 +143,11 @@ module _ (trace : Trace) (fences : List Numbered) (follow : fences ≡ reverse (
         ∙ (reason-found 0 (find (λ n. found n.made) (take_while (is_after 0) all)) (finds-after begins_flush found narrow 0 trace)
         ∙ ap (reason_by scheme w.hart w.entry found) (after-none trace))
 
-claim-begins : (token : ℕ) (r : Record) → begins_claim token r ≡ true → begins_flush r ≡ true
+pub claim-begins : (token : ℕ) (r : Record) → begins_claim token r ≡ true → begins_flush r ≡ true
 claim-begins token (ClaimBegin of at claim) is = refl
 claim-begins token _ is = absurd (true≢false (sym is))
 
-flush-begins : (x : Translation) (r : Record) → begins_flush_of x r ≡ true → begins_flush r ≡ true
+pub flush-begins : (x : Translation) (r : Record) → begins_flush_of x r ≡ true → begins_flush r ≡ true
 flush-begins x (ClaimBegin of at claim) is = refl
 flush-begins x _ is = absurd (true≢false (sym is))
 

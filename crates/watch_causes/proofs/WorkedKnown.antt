@@ -26,6 +26,21 @@ reason_passes = refl
 pub reason_fails : worked.reason_fails
 reason_fails = refl
 
+pub reach_passes : worked.reach_passes
+reach_passes = refl
+
+pub reach_fails : worked.reach_fails
+reach_fails = refl
+
+pub other_reach_fails : worked.other_reach_fails
+other_reach_fails = refl
+
+pub unknown_reach_fails : worked.unknown_reach_fails
+unknown_reach_fails = refl
+
+pub no_reach_passes : worked.no_reach_passes
+no_reach_passes = refl
+
 pub range_before_passes : worked.range_before_passes
 range_before_passes = refl
 
@@ -104,7 +119,7 @@ counts_each = refl
 pub counts_first_verdict : worked.counts_first_verdict
 counts_first_verdict = refl
 
-pub ruleset worked_entries = (user_passes, user_fails, kernel_passes, kernel_fails, first_passes, first_fails, reason_passes, reason_fails, range_before_passes, range_before_fails, range_behind_passes, range_behind_fails, no_byte_fails, whole_note_passes, note_passes, longer_note_fails, later_note_fails, other_note_fails, no_note_passes, no_note_fails, all_pass, all_but_one_fail)
+pub ruleset worked_entries = (user_passes, user_fails, kernel_passes, kernel_fails, first_passes, first_fails, reason_passes, reason_fails, reach_passes, reach_fails, other_reach_fails, unknown_reach_fails, no_reach_passes, range_before_passes, range_before_fails, range_behind_passes, range_behind_fails, no_byte_fails, whole_note_passes, note_passes, longer_note_fails, later_note_fails, other_note_fails, no_note_passes, no_note_fails, all_pass, all_but_one_fail)
 
 pub ruleset worked_first_verdicts = (begins_known, begins_unknown, stays_known, stays_unknown, other_hart_is_not, other_record_is_not, second_entry)
 

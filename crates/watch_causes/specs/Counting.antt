@@ -1,15 +1,17 @@
 -- How many findings and verdicts there are, of a cause and of all.
-use Rattle.std.specs.Prelude.{ℕ, Bool, false, ◌≡◌, ◌+◌, ◌&&◌, if◌then◌else◌, List, [], ◌∷◌, Option, Some, None}
+use Rattle.std.specs.Prelude.{ℕ, Bool, false, ◌≡◌, ◌+◌, ◌&&◌, if◌then◌else◌, List, [], ◌∷◌, Option, Some, None, filter, length}
 use Rattle.std.specs.List.{list_any}
 use Rattle.std.specs.Option.{option_or}
 use Rattle.watch.specs.declared.trace.Verdict.{Verdict}
 use Rattle.watch.specs.declared.trace.Verdict.TheVariants.{Free, Reuse, Claimed, Used}
 use Rattle.watch_engine.specs.declared.warning.Warning.{Warning}
+use Rattle.watch_causes.specs.declared.begun.Begun.{Begun}
 use Rattle.watch_causes.specs.declared.finding.Cause.{Cause}
+use Rattle.watch_causes.specs.declared.finding.Finding.{Finding}
 use Rattle.watch_causes.specs.declared.tally.Example.{Example}
 use Rattle.watch_causes.specs.declared.tally.Tally.{Tally}
 use Rattle.watch_causes.specs.declared.tally.Verdicts.{Verdicts}
-use Rattle.watch_causes.specs.Findings.{Judged, begins_finding, cause_with, is_same_cause, is_same_verdict}
+use Rattle.watch_causes.specs.Findings.{Judged, begins_finding, cause_with, finding_of, is_same_cause, is_same_finding, is_same_verdict}
 use Rattle.watch_causes.specs.Tallies.{is_of, more_if}
 
 -- the next verdict belongs to the cause
@@ -60,6 +62,18 @@ verdicts_in kind (Some t) = of_kind kind t.verdicts
 
 abbrev pub sum_of : Verdicts → ℕ
 sum_of n = n.free + n.reuse + n.claimed + n.used
+
+-- ---- the same of what has begun
+
+-- how often the finding is among these
+abbrev pub times_begun : Finding → List Begun → ℕ
+times_begun f begun = length (filter (λ b. is_same_finding (finding_of b.warning) f) begun)
+
+-- how many of these are of a cause
+abbrev pub begun_of_cause : Cause → List Begun → ℕ
+begun_of_cause cause begun = length (filter (λ b. is_same_cause cause b.cause) begun)
+
+-- ---- causes, and findings
 
 -- no two of them are of one cause
 abbrev pub AreApart : List Tally → Type 0

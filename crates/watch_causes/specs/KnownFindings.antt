@@ -12,6 +12,8 @@ use Rattle.watch.specs.Trace.{Trace}
 use Rattle.watch_engine.specs.declared.warning.Warning.{Warning}
 use Rattle.watch_causes.specs.declared.finding.Finding.{Finding}
 use Rattle.watch_causes.specs.declared.known.Known.{Known}
+use Rattle.watch_causes.specs.declared.reach.Reach.{Reach}
+use Rattle.watch_causes.specs.declared.reach.Reach.TheVariants.{Used, Reachable, NotReached}
 use Rattle.watch_causes.specs.declared.reason.Reason.{Reason}
 use Rattle.watch_causes.specs.Findings.{Judged, finding_of, is_same_finding, is_same_reason, is_same_verdict}
 use Rattle.watch_causes.specs.Judging.{judged}
@@ -33,15 +35,29 @@ unnumbered w reason by =
 
 -- ---- entries
 
--- an entry of the list, with its note as a text
+abbrev pub reach_number : Reach → ℕ
+reach_number Used = 0
+reach_number Reachable = 1
+reach_number NotReached = 2
+
+-- a test that is not there is passed; the reach of a finding may not be known
+abbrev pub is_of_reach : Option Reach → Option Reach → Bool
+is_of_reach None reach = true
+is_of_reach (Some of) None = false
+is_of_reach (Some of) (Some reach) = reach_number of == reach_number reach
+
+-- an entry of the list, with its note as a text; the test of reach is of a finding on the whole trace
 pub record KnownEntry : Type 0 where
   pub line : ℕ
   pub global : Bool
   pub first : Option Verdict
   pub reason : Option Reason
+  pub reach : Option Reach
+  pub among : Finding → Bool
   pub range : Option AddressRange
   pub note : List ℕ
 
+-- where the reach of no finding is known
 abbrev pub known_entry : Known → KnownEntry
 known_entry known =
     record {
@@ -49,9 +65,15 @@ known_entry known =
       global = known.global;
       first = known.first;
       reason = known.reason;
+      reach = known.reach;
+      among = λ f. is_of_reach known.reach None;
       range = known.range;
       note = known.note.items;
     }
+
+-- where it is
+abbrev pub resolved_by : (Finding → Option Reach) → KnownEntry → KnownEntry
+resolved_by reach entry = record entry { among = λ f. is_of_reach entry.reach (reach f) }
 
 -- a test that is not there is passed
 abbrev pub is_of_kind : Option Verdict → Verdict → Bool
@@ -62,13 +84,14 @@ abbrev pub is_for_reason : Option Reason → Reason → Bool
 is_for_reason None reason = true
 is_for_reason (Some of) reason = is_same_reason of reason
 
--- the entry's note begins the verdict's
+-- the entry's note begins the verdict's, and its reach is that of the verdict's finding
 abbrev pub matches : KnownEntry → Sourced → Bool
 matches entry v =
     is_same entry.global v.judged.warning.entry.global
     && (is_of_kind entry.first v.judged.warning.verdict
     && (is_for_reason entry.reason v.judged.reason
-    && (reaches entry.range v.judged.warning.entry.page && starts_with nat_eq v.by entry.note)))
+    && (reaches entry.range v.judged.warning.entry.page
+    && (starts_with nat_eq v.by entry.note && entry.among (finding_of v.judged.warning)))))
 
 -- the place of the first entry that matches
 abbrev pub entry_of : List KnownEntry → Sourced → Option ℕ

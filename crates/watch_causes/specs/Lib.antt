@@ -11,5 +11,15 @@ pub mod Stories
 pub mod WorkedCauses
 pub mod WorkedStories
 pub mod KnownFindings
+pub mod KnownReaches
 pub mod KnownSoFar
 pub mod WorkedKnown
+pub mod Moves
+pub mod Decisions
+pub mod Fenced
+pub mod Masks
+pub mod Begins
+pub mod Reaches
+pub mod Reaching
+pub mod Returns
+pub mod WorkedReaches

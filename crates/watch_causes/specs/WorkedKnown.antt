@@ -1,7 +1,7 @@
 -- Worked findings that are known: entries and verdicts, by hand. The page is that of the worked traces
 -- of `watch`, of 4 KiB at 0x1000, which hart 1 may hold, stale since record 6, where nothing else is
 -- said.
-use Rattle.std.specs.Prelude.{ℕ, Bool, true, false, ◌≡◌, List, [], ◌∷◌, Some, None, codes}
+use Rattle.std.specs.Prelude.{ℕ, Bool, true, false, ◌≡◌, ◌==◌, if◌then◌else◌, List, [], ◌∷◌, Option, Some, None, codes}
 use Rattle.watch.specs.declared.trace.Verdict.{Verdict}
 use Rattle.watch.specs.declared.trace.Verdict.TheVariants.{Free, Reuse, Used}
 use Rattle.watch.specs.WorkedTraces.{global_page, page, writable}
@@ -9,7 +9,10 @@ use Rattle.watch_engine.specs.WorkedWarnings.{warning}
 use Rattle.watch_causes.specs.declared.reason.Reason.{Reason}
 use Rattle.watch_causes.specs.declared.reason.Reason.TheVariants.{NoFlush, NoFence, OtherHarts}
 use Rattle.watch_causes.specs.Findings.{Judged}
-use Rattle.watch_causes.specs.KnownFindings.{KnownEntry, Sourced, counts_of, is_known, matches}
+use Rattle.watch_causes.specs.declared.finding.Finding.{Finding}
+use Rattle.watch_causes.specs.declared.reach.Reach.{Reach}
+use Rattle.watch_causes.specs.declared.reach.Reach.TheVariants.{Used as UsedReach, Reachable, NotReached}
+use Rattle.watch_causes.specs.KnownFindings.{KnownEntry, Sourced, counts_of, is_known, is_of_reach, matches, resolved_by}
 use Rattle.watch_causes.specs.WorkedCauses.{at, freed}
 
 -- a verdict whose page a record with this note made stale
@@ -31,6 +34,8 @@ of_user =
       global = false;
       first = None;
       reason = None;
+      reach = None;
+      among = λ f. true;
       range = None;
       note = [];
     }
@@ -46,6 +51,13 @@ of_reason reason = record of_user { reason = Some reason }
 
 abbrev pub of_range : ℕ → ℕ → KnownEntry
 of_range start size = record of_user { range = Some (record { start = start; size = size }) }
+
+-- where the findings of no hart, or of hart 1, are used
+abbrev pub of_reach : Reach → KnownEntry
+of_reach reach = record of_user { reach = Some reach; among = λ f. is_of_reach (Some reach) None }
+
+abbrev pub used_by_one : Finding → Option Reach
+used_by_one f = if f.hart == 1 then Some UsedReach else Some NotReached
 
 abbrev pub of_note : List ℕ → KnownEntry
 of_note note = record of_user { note = note }
@@ -81,6 +93,22 @@ reason_passes = passes (of_reason OtherHarts) unmapped
 
 abbrev pub reason_fails : Type 0
 reason_fails = fails (of_reason NoFence) unmapped
+
+-- the reach of the finding on the whole trace: used, and not, and not known
+abbrev pub reach_passes : Type 0
+reach_passes = passes (resolved_by used_by_one (of_reach UsedReach)) unmapped
+
+abbrev pub reach_fails : Type 0
+reach_fails = fails (resolved_by used_by_one (of_reach Reachable)) unmapped
+
+abbrev pub other_reach_fails : Type 0
+other_reach_fails = fails (resolved_by used_by_one (of_reach NotReached)) unmapped
+
+abbrev pub unknown_reach_fails : Type 0
+unknown_reach_fails = fails (of_reach UsedReach) unmapped
+
+abbrev pub no_reach_passes : Type 0
+no_reach_passes = passes (resolved_by used_by_one of_user) unmapped
 
 -- the range ends with the first byte of the page, and before it; begins with the last byte, and behind
 -- it; and has no byte
@@ -130,6 +158,8 @@ of_all =
       global = false;
       first = Some Free;
       reason = Some OtherHarts;
+      reach = None;
+      among = λ f. true;
       range = Some (record { start = 0x1000; size = 0x1000 });
       note = codes "vunmap";
     }

@@ -38,7 +38,7 @@ fn own_root(global: bool, root: u64) -> u64
     if global { 0 } else { root }
 }
 
-fn own_asid(global: bool, asid: u16) -> u16
+pub(crate) fn own_asid(global: bool, asid: u16) -> u16
     ensures { result ≡ own global asid }
 {
     if global { 0 } else { asid }

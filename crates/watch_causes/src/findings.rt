@@ -29,7 +29,7 @@ fn cause_in(causes: &BTreeMap<Finding, Cause>, finding: &Finding) -> Option<Caus
 }
 
 /// The cause of a finding that begins with a verdict.
-fn cause_by(warning: &Warning, reason: Reason) -> Cause
+pub(crate) fn cause_by(warning: &Warning, reason: Reason) -> Cause
     ensures { (number : ℕ) → result
         ≡ cause_by (record { number = number; warning = warning.now; reason = reason }) }
 {

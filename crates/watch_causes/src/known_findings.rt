@@ -1,15 +1,20 @@
 //! The findings so far that are known to be by design.
 
-ghost use Rattle.std.specs.Prelude.{◌≡◌, ◌==◌, ◌∷◌, ◌+◌, ◌<◌, ℕ, List, [], IfOk, None, OnOk, Some, length, map};
+ghost use Rattle.std.specs.Prelude.{◌≡◌, ◌==◌, ◌∷◌, ◌+◌, ◌<◌, ℕ, List, Option, [], IfOk, None, OnOk, Some, length};
 ghost use Rattle.std.specs.BTreeMap.{get};
 ghost use Rattle.std.specs.Option.{is_some};
 ghost use Rattle.pte.specs.declared.scheme.Scheme.{Scheme as SchemeOf};
 ghost use Rattle.watch.specs.Trace.{Trace};
+ghost use Rattle.watch_causes.specs.declared.finding.Finding.{Finding as FindingOf};
+ghost use Rattle.watch_causes.specs.declared.reach.Reach.{Reach as ReachOf};
 ghost use Rattle.watch_causes.specs.Findings.{finding_cmp, finding_of};
-ghost use Rattle.watch_causes.specs.KnownFindings.{KnownEntry, Sourced, counted_at, counts_of, entry_of, first_of, is_known, known_entry, known_of, sourced, unnumbered};
+ghost use Rattle.watch_causes.specs.KnownFindings.{KnownEntry, Sourced, counted_at, counts_of, entry_of, first_of, is_known, known_of, sourced, unnumbered};
+ghost use Rattle.watch_causes.specs.KnownReaches.{reach_in};
+ghost use Rattle.watch_causes.specs.KnownSoFar.{entries_by};
 
 use crate::finding::{Finding, finding_of};
 use crate::known::{Known, entry_of};
+use crate::known_reaches::KnownReaches;
 use crate::log::Log;
 use crate::reason::Reason;
 use crate::tally::more_if;
@@ -24,6 +29,7 @@ use watch_engine::Warning;
 pub struct KnownFindings {
     scheme: Scheme,
     known: Vec<Known>,
+    reaches: KnownReaches,
     log: Log,
     /// Each finding, and whether it is known.
     findings: BTreeMap<Finding, bool>,
@@ -55,18 +61,20 @@ fn count_at(counts: &mut Vec<u64>, place: Option<usize>) -> Result<(), AllocErro
 impl KnownFindings {
     ghost use Rattle.watch_causes.specs.KnownSoFar.{HasKnown};
 
-    /// No record was taken.
+    /// No record was taken, of a trace whose findings have these reaches.
     pub fn new(
         alloc: Global,
         scheme: Scheme,
         known: Vec<Known>,
+        reaches: KnownReaches,
     ) -> Result<KnownFindings, AllocError>
-        ensures { IfOk result (HasKnown (map known_entry known.items) scheme [] []) }
+        ensures { IfOk result (HasKnown (entries_by (reach_in reaches) known.items) scheme [] []) }
     {
         let counts = vec![in alloc; 0_u64; known.len()]?;
         Ok(KnownFindings {
             scheme,
             known,
+            reaches,
             log: Log::new(alloc),
             findings: BTreeMap::new(alloc),
             counts,
@@ -94,7 +102,8 @@ impl KnownFindings {
     /// Takes a verdict that begins its finding; whether that is known.
     fn begin(&mut self, warning: &Warning, reason: Reason, by: &[u8]) -> Result<bool, AllocError>
         ensures known { IfOk result (λ answer. answer
-            ≡ is_some (entry_of (map known_entry self.old.known.items) (unnumbered warning.now reason by.now))) }
+            ≡ is_some (entry_of (entries_by (reach_in self.old.reaches) self.old.known.items)
+            (unnumbered warning.now reason by.now))) }
         ensures taken { (known : List KnownEntry) (scheme : SchemeOf) (trace : Trace)
             (verdicts : List Sourced) (number : ℕ) → HasKnown known scheme trace verdicts self.old
             → first_of verdicts (finding_of warning.now) ≡ None
@@ -103,12 +112,10 @@ impl KnownFindings {
               by = by.now;
             } ∷ verdicts) self.new) }
     {
-        let place = entry_of(self.known.as_slice(), warning, reason, by);
-        if self
-            .findings
-            .insert(finding_of(warning), place.is_some())
-            .is_err()
-        {
+        let finding = finding_of(warning);
+        let reach = self.reaches.reach(&finding);
+        let place = entry_of(self.known.as_slice(), warning, reason, by, reach);
+        if self.findings.insert(finding, place.is_some()).is_err() {
             return Err(AllocError);
         }
         count_at(&mut self.counts, place)?;
@@ -170,7 +177,8 @@ impl KnownFindings {
     /// The entries of the list.
     pub fn entries(&self) -> &[Known]
         ensures { (known : List KnownEntry) (scheme : SchemeOf) (trace : Trace) (verdicts : List Sourced)
-            → HasKnown known scheme trace verdicts self.now → map known_entry result.now ≡ known }
+            → HasKnown known scheme trace verdicts self.now
+            → (reach : FindingOf → Option ReachOf) × (entries_by reach result.now ≡ known) }
     {
         self.known.as_slice()
     }

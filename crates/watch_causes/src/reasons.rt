@@ -26,7 +26,7 @@ struct Asked<'a> {
     hart: u8,
 }
 
-fn asks_any(fences: &[Numbered], flusher: u8) -> bool
+pub(crate) fn asks_any(fences: &[Numbered], flusher: u8) -> bool
     ensures { result ≡ list_any (λ f. asks flusher f.made) fences.now }
 {
     fences.iter().any(|f| asks_others(&f.made, flusher))
@@ -105,7 +105,7 @@ fn reason_in(scheme: Scheme, fences: &[Numbered], flusher: u8, hart: u8, entry: 
     asked.reason(scheme, entry)
 }
 
-fn hart_of(made: &Record) -> u8
+pub(crate) fn hart_of(made: &Record) -> u8
     ensures { result ≡ hart_of made.now }
 {
     match made {
@@ -173,7 +173,7 @@ fn newest_flush(flushes: &[Numbered], warning: &Warning) -> Option<Numbered>
 
 impl Log {
     /// The flush by which the kernel took the translation for gone at a record.
-    fn flush(&self, newest: &Record, warning: &Warning) -> Option<Numbered>
+    pub(crate) fn flush(&self, newest: &Record, warning: &Warning) -> Option<Numbered>
         ensures { result ≡ flush_in newest.now warning.now self.now.flushes.items }
     {
         match newest {

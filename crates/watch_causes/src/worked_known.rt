@@ -14,6 +14,11 @@ pub fn worked_entries()
     ensures first_fails { worked.first_fails }
     ensures reason_passes { worked.reason_passes }
     ensures reason_fails { worked.reason_fails }
+    ensures reach_passes { worked.reach_passes }
+    ensures reach_fails { worked.reach_fails }
+    ensures other_reach_fails { worked.other_reach_fails }
+    ensures unknown_reach_fails { worked.unknown_reach_fails }
+    ensures no_reach_passes { worked.no_reach_passes }
     ensures range_before_passes { worked.range_before_passes }
     ensures range_before_fails { worked.range_before_fails }
     ensures range_behind_passes { worked.range_behind_passes }

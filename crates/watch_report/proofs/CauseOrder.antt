@@ -7,7 +7,8 @@ use Rattle.std.proofs.lemmas.Bool.{and_parts, both_ways, false≢true, not-true}
 use Rattle.std.proofs.lemmas.List.Sorted.{IsPermutation-cons, IsPermutation-insert, IsPermutation-refl, IsPermutation-trans, IsStrictWeakOrder-by_number, IsStrictWeakOrder-flip, sorted_far}
 use Rattle.watch_causes.specs.declared.tally.Tally.{Tally}
 use Rattle.watch_report.specs.declared.cause_line.NumberedTally.{NumberedTally}
-use Rattle.watch_report.specs.CauseLines.{AreInOrder, by_test, comes_before, has_reuse, is_of_users, numbered, numbered_from, ordered, ordered_from, placed}
+use Rattle.watch_report.specs.declared.found.Found.{Found}
+use Rattle.watch_report.specs.CauseLines.{AreInOrder, by_test, comes_before, has_reachable, has_reuse, has_used, is_of_users, numbered_by, numbered_from, ordered, ordered_from, placed}
 use Rattle.watch_report.proofs.CauseLemmas.{behind, is_placed}
 
 -- ---- one comes before another
@@ -36,7 +37,8 @@ first_by test lt o = record {
 
 comes_strictly : IsStrictWeakOrder comes_before
 comes_strictly =
-    first_by is_of_users _ (first_by has_reuse _ (IsStrictWeakOrder-flip _ (IsStrictWeakOrder-by_number (λ (one : NumberedTally). one.tally.findings))))
+    first_by is_of_users _ (first_by has_reuse _ (first_by has_used _ (first_by has_reachable _
+    (IsStrictWeakOrder-flip _ (IsStrictWeakOrder-by_number (λ (one : NumberedTally). one.tally.findings))))))
 
 -- ---- in order
 
@@ -65,9 +67,9 @@ placed_ordered : (one : NumberedTally) (ones : List NumberedTally) → Ordered o
 placed_ordered one [] order = tt
 placed_ordered one (next ∷ ones) order = placed_by (comes_before next one) one next ones refl order
 
-all_ordered : (number : ℕ) (tallies : List Tally) → Ordered (ordered_from number tallies)
-all_ordered number [] = tt
-all_ordered number (t ∷ tallies) = placed_ordered (numbered number t) (ordered_from (number + 1) tallies) (all_ordered (number + 1) tallies)
+all_ordered : (founds : List Found) (number : ℕ) (tallies : List Tally) → Ordered (ordered_from founds number tallies)
+all_ordered founds number [] = tt
+all_ordered founds number (t ∷ tallies) = placed_ordered (numbered_by founds number t) (ordered_from founds (number + 1) tallies) (all_ordered founds (number + 1) tallies)
 
 adjacent : (ones : List NumberedTally) → Ordered ones → (k : ℕ) (d : NumberedTally) → suc k < length ones → comes_before (get_or ones (suc k) d) (get_or ones k d) ≡ false
 adjacent [] order k d below = absurd (omega (arith, below))
@@ -80,9 +82,9 @@ sorted ones order k d low below =
     let next : k + 1 ≡ suc k = omega arith in
     subst (λ (n : ℕ). comes_before (get_or ones n d) (get_or ones k d) ≡ false) (sym next) (adjacent ones order k d (omega (arith, below)))
 
-pub causes_in_order : (tallies : List Tally) → AreInOrder (ordered tallies)
-causes_in_order tallies front back d order below =
-    sorted_far comes_before comes_strictly (ordered tallies) (sorted (ordered tallies) (all_ordered 1 tallies)) front back d order below
+pub causes_in_order : (founds : List Found) (tallies : List Tally) → AreInOrder (ordered founds tallies)
+causes_in_order founds tallies front back d order below =
+    sorted_far comes_before comes_strictly (ordered founds tallies) (sorted (ordered founds tallies) (all_ordered founds 1 tallies)) front back d order below
 
 -- ---- all of them
 
@@ -90,15 +92,15 @@ placed_among : (one : NumberedTally) (ones : List NumberedTally) → IsPermutati
 placed_among one ones =
     subst (λ (all : List NumberedTally). IsPermutation (one ∷ ones) all) (is_placed one ones) (IsPermutation-insert ones (position_or_len (behind one) ones) one)
 
-ordered_among : (number : ℕ) (tallies : List Tally) → IsPermutation (numbered_from number tallies) (ordered_from number tallies)
-ordered_among number [] = IsPermutation-refl []
-ordered_among number (t ∷ tallies) =
+ordered_among : (founds : List Found) (number : ℕ) (tallies : List Tally) → IsPermutation (numbered_from founds number tallies) (ordered_from founds number tallies)
+ordered_among founds number [] = IsPermutation-refl []
+ordered_among founds number (t ∷ tallies) =
     IsPermutation-trans _ _ _
-    (IsPermutation-cons (numbered number t) (numbered_from (number + 1) tallies) (ordered_from (number + 1) tallies) (ordered_among (number + 1) tallies))
-    (placed_among (numbered number t) (ordered_from (number + 1) tallies))
+    (IsPermutation-cons (numbered_by founds number t) (numbered_from founds (number + 1) tallies) (ordered_from founds (number + 1) tallies) (ordered_among founds (number + 1) tallies))
+    (placed_among (numbered_by founds number t) (ordered_from founds (number + 1) tallies))
 
-pub all_causes : (tallies : List Tally) → IsPermutation (numbered_from 1 tallies) (ordered tallies)
-all_causes tallies = ordered_among 1 tallies
+pub all_causes : (founds : List Found) (tallies : List Tally) → IsPermutation (numbered_from founds 1 tallies) (ordered founds tallies)
+all_causes founds tallies = ordered_among founds 1 tallies
 
 -- ---- those that are alike
 
@@ -131,11 +133,11 @@ module _ (x : NumberedTally) where
   placed_alike one [] = refl
   placed_alike one (next ∷ ones) = alike_by (comes_before next one) one next ones refl (placed_alike one ones)
 
-  ordered_alike : (number : ℕ) (tallies : List Tally) → filter like (ordered_from number tallies) ≡ filter like (numbered_from number tallies)
-  ordered_alike number [] = refl
-  ordered_alike number (t ∷ tallies) =
-      placed_alike (numbered number t) (ordered_from (number + 1) tallies)
-      ∙ ap (λ (rest : List NumberedTally). cond (like (numbered number t)) (numbered number t ∷ rest) rest) (ordered_alike (number + 1) tallies)
+  ordered_alike : (founds : List Found) (number : ℕ) (tallies : List Tally) → filter like (ordered_from founds number tallies) ≡ filter like (numbered_from founds number tallies)
+  ordered_alike founds number [] = refl
+  ordered_alike founds number (t ∷ tallies) =
+      placed_alike (numbered_by founds number t) (ordered_from founds (number + 1) tallies)
+      ∙ ap (λ (rest : List NumberedTally). cond (like (numbered_by founds number t)) (numbered_by founds number t ∷ rest) rest) (ordered_alike founds (number + 1) tallies)
 
-pub alike_causes : (tallies : List Tally) → IsStableBy comes_before (numbered_from 1 tallies) (ordered tallies)
-alike_causes tallies x = ordered_alike x 1 tallies
+pub alike_causes : (founds : List Found) (tallies : List Tally) → IsStableBy comes_before (numbered_from founds 1 tallies) (ordered founds tallies)
+alike_causes founds tallies x = ordered_alike x founds 1 tallies

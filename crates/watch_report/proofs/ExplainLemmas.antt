@@ -11,9 +11,10 @@ use Rattle.watch_report.specs.declared.reading_fault.ReadingFault.TheVariants.{U
 use Rattle.watch_report.specs.Ending.{IsAtLine}
 use Rattle.watch_report.specs.Explaining.{Asked, HasVerdict, TellsAt, up_to}
 use Rattle.watch_report.specs.LineFaults.{fault_of, header_fault}
-use Rattle.watch_report.specs.Prefix.{AreBefore, ExplainsLine, Finds, FindsBy}
+use Rattle.watch_report.specs.Prefix.{AreBefore, ExplainsLine}
 use Rattle.watch_report.specs.Reading.{IsReadFault, report_fault_of}
 use Rattle.watch_report.specs.TraceLines.{LineText, record_of}
+use Rattle.watch_report.specs.ToldStories.{Finds, FindsBy}
 use Rattle.watch_report.specs.TraceText.{Noted, body_of, has_no_form, header_of, lines_of, said_first, with_record}
 use Rattle.watch_report.proofs.EndingLemmas.{fault_there, faultless, faulty_at}
 use Rattle.watch_report.proofs.ReadLemmas.{AreTaken, IsText, all_text, more_taken, records_of_all}

@@ -1,20 +1,23 @@
 -- Each object of JSON stands on a line of its own.
-use Rattle.std.proofs.Common.{◌≡◌, ℕ, ◌/◌, ◌%◌, ◌==◌, ◌&&◌, Bool, true, false, nat_lt, cond, List, [], ◌∷◌, ◌++◌, codes, length, Option, Some, None, eqb-true, refl, sym, subst, ne_eqb}
+use Rattle.std.proofs.Common.{◌≡◌, ℕ, ◌/◌, ◌%◌, ◌==◌, ◌&&◌, Bool, true, false, nat_lt, cond, List, [], ◌∷◌, ◌++◌, codes, length, map, Option, Some, None, eqb-true, refl, sym, subst, ne_eqb}
 use Rattle.std.specs.Char.{digit_char}
 use Rattle.std.specs.Str.Lossy.{utf8_lossy}
-use Rattle.json.specs.Token.{Token, end_object, key, string, boolean, null}
+use Rattle.json.specs.Token.{Token, end_array, end_object, key, string, boolean, null}
 use Rattle.json.specs.Print.{begins, ends, escape, escape_byte, escape_letter, print, print_from, token_text}
 use Rattle.pte.specs.Address.{bytes_of}
 use Rattle.tlb.specs.declared.store.Entry.{Entry}
 use Rattle.watch.specs.declared.trace.Frames.{Frames}
 use Rattle.watch_causes.specs.declared.finding.Cause.{Cause}
 use Rattle.watch_report.specs.declared.counts.VerdictCounts.{VerdictCounts}
+use Rattle.watch_report.specs.declared.found.Found.{Found}
+use Rattle.watch_report.specs.declared.note_group.NoteGroup.{NoteGroup}
 use Rattle.watch_report.specs.declared.warning.Trigger.{Trigger}
 use Rattle.watch_report.specs.declared.warning.Trigger.TheVariants.{GivenBack, GivenOut, ClaimedSince, UsedAt}
 use Rattle.watch_report.specs.declared.warning.Warning.{Warning}
 use Rattle.watch_report.specs.JsonLaws as laws
 use Rattle.watch_report.specs.JsonLaws.{IsOnALine}
 use Rattle.watch_report.specs.JsonObjects.{cause_fields, counts_field, counts_fields, counts_of_cause, entry_fields, field, file_fields, frames_fields, hexadecimal_value, note_value, number_value, object_of, place_fields, scoped_value, since_fields, text_value, trigger_fields, verdict_fields, optional_value}
+use Rattle.watch_report.specs.NoteObjects.{found_fields, group_fields, note_fields, numbers_field, reach_fields, spaces_value, stale_fields}
 use Rattle.watch_report.specs.ReadStories.{HasNoFeed}
 use Rattle.watch_report.specs.TraceText.{is_feed}
 use Rattle.watch_report.proofs.NoFeeds.{Quiet, dec, either, no_glyph, of_two, word, ◌⊕◌}
@@ -195,4 +198,52 @@ each_summary file records wrong user kernel design =
     (object _ (file_calm (codes "summary") file ⊗ number (codes "records") records ⊗ optional (codes "before_line") wrong
     ⊗ counted (codes "user") user ⊗ counted (codes "kernel") kernel ⊗ optional (codes "by_design") design))
 
-pub ruleset lines = (each_verdict, each_cause, each_total, each_known, each_summary)
+-- ---- findings and notes
+
+items : (numbers : List ℕ) → AreQuiet (map number_value numbers ++ end_array ∷ [])
+items [] = (word (93 ∷ []) refl, tt)
+items (n ∷ numbers) = (dec n, items numbers)
+
+array : (name : List ℕ) (numbers : List ℕ) → Calm (numbers_field name numbers)
+unfolding numbers_field
+array name numbers = record { each = (key_quiet name, (word (91 ∷ []) refl, items numbers)) }
+
+spaces_quiet : (global : Bool) (n : ℕ) → Quiet (token_text (spaces_value global n))
+spaces_quiet true n = word (codes "null") refl
+spaces_quiet false n = dec n
+
+found : (file : List ℕ) (line : ℕ) (f : Found) → Calm (found_fields file line f)
+unfolding found_fields
+found file line f =
+    place (codes "finding") file line ⊗ number (codes "cause") f.number ⊗ is_so (codes "kernel") f.begun.warning.entry.global
+    ⊗ number (codes "hart") f.begun.warning.hart
+
+stale : (f : Found) (since : ℕ) (stale_by : List ℕ) → Calm (stale_fields f since stale_by)
+unfolding stale_fields
+stale f since stale_by =
+    scoped (codes "root") f.begun.warning.entry.global f.begun.warning.root ⊗ number (codes "stale_since") since
+    ⊗ note (codes "stale_by") stale_by
+
+pub each_finding : laws.each_finding
+each_finding file line since stale_by f =
+    on_a_line _ (object _ (found file line f ⊗ entry f.begun.warning.entry ⊗ stale f since stale_by ⊗ text (codes "reach") _))
+
+noted : (file : List ℕ) (n : ℕ) (by : List ℕ) → Calm (note_fields file n by)
+unfolding note_fields
+noted file n by = file_calm (codes "note") file ⊗ number (codes "cause") n ⊗ note (codes "note") by
+
+group : (global : Bool) (g : NoteGroup) → Calm (group_fields global g)
+unfolding group_fields
+group global g =
+    number (codes "findings") g.findings ⊗ number (codes "pages") g.pages
+    ⊗ one (codes "spaces") (spaces_value global g.spaces) (spaces_quiet global g.spaces)
+    ⊗ array (codes "harts") _ ⊗ array (codes "asked") _
+
+reach : (g : NoteGroup) → Calm (reach_fields g)
+unfolding reach_fields
+reach g = number (codes "used") g.used ⊗ number (codes "reachable") g.reachable ⊗ number (codes "not_reached") g.not_reached
+
+pub each_note : laws.each_note
+each_note file n by global g = on_a_line _ (object _ (noted file n by ⊗ group global g ⊗ reach g))
+
+pub ruleset lines = (each_verdict, each_cause, each_total, each_known, each_summary, each_finding, each_note)

@@ -8,6 +8,7 @@ pub mod RecordLemmas
 pub mod FirstBytes
 pub mod Hexadecimal
 pub mod CountLemmas
+pub mod ShownLemmas
 mod CauseLemmas
 pub mod CauseOrder
 pub mod Spaced
@@ -38,6 +39,7 @@ pub mod WorkedFilters
 pub mod WorkedStories
 mod TextLemmas
 mod NoteLemmas
+mod ResolvedLists
 mod RunLemmas
 pub mod StandingLemmas
 mod BlockLemmas
@@ -48,3 +50,8 @@ pub mod FaultLaws
 pub mod WorkedFaults
 pub mod WorkedKnownTexts
 pub mod WorkedKnownReports
+pub mod NoteGroupLemmas
+pub mod GroupOrder
+pub mod NoteLineLemmas
+pub mod WorkedNotes
+pub mod NoteSums

@@ -1,5 +1,5 @@
 -- What is printed of a story has no line feed but at the ends of its lines.
-use Rattle.std.proofs.Common.{◌≡◌, ℕ, zero, suc, ◌+◌, ◌/◌, ◌%◌, ◌==◌, ◌||◌, Bool, true, false, nat_lt, cond, List, [], ◌∷◌, ◌++◌, codes, length, Option, Some, None, refl, ◌∙◌, arith, ne_eqb}
+use Rattle.std.proofs.Common.{◌≡◌, ℕ, zero, suc, ◌+◌, ◌/◌, ◌%◌, ◌==◌, ◌||◌, Bool, true, false, nat_lt, cond, List, [], ◌∷◌, ◌++◌, codes, length, Option, Some, None, refl, ◌∙◌, arith, ne_eqb, ap, sym, true≢false}
 use Rattle.std.specs.Fmt.{decimal, digit_glyph, digits, digits_onto}
 use Rattle.std.specs.List.{AllByRecursion, join_with_byte, list_any}
 use Rattle.std.proofs.lemmas.List.Folds.{list_any-append}
@@ -23,6 +23,7 @@ use Rattle.watch_report.specs.declared.warning.Trigger.{Trigger}
 use Rattle.watch_report.specs.declared.warning.Trigger.TheVariants.{GivenBack, GivenOut, ClaimedSince, UsedAt}
 use Rattle.watch_report.specs.declared.warning.Warning.{Warning}
 use Rattle.watch_report.specs.ReadStories.{HasNoFeed, HaveNoFeed}
+use Rattle.watch_report.specs.ShownNotes.{escaped, is_plain, shown_note}
 use Rattle.watch_report.specs.RecordLines.{note_text, optional_text, record_fields, record_text, satp_word, range_size, range_start}
 use Rattle.watch_report.specs.StoryTexts.{entered_text, fence_text, hart_text, header_text, miss_text, missed_space, role_text, scheme_text, use_text}
 use Rattle.watch_report.specs.TraceText.{Noted, is_feed, note_at}
@@ -79,12 +80,21 @@ note_none (r ∷ records) n notes = of_two (n == length (r ∷ records)) r.by (n
 pub noted_by : (records : List Noted) (n : ℕ) → HaveNoFeed records → Quiet (note_at records n)
 noted_by records n notes = word (note_at records n) (note_none records n notes)
 
+-- a note is shown without one
+shown_quiet : (note : List ℕ) → Quiet (shown_note note)
+shown_quiet [] = word [] refl
+shown_quiet (byte ∷ note) = byte_quiet (is_plain byte) refl ⊕ shown_quiet note
+  where
+    byte_quiet : (b : Bool) → is_plain byte ≡ b → Quiet (cond b (byte ∷ []) (escaped byte))
+    byte_quiet true e = word (byte ∷ []) (either (is_feed byte) false (ne_eqb byte 10 (λ (is : byte ≡ 10). true≢false (sym e ∙ ap is_plain is))) refl)
+    byte_quiet false e = word (escaped byte) (one_more (byte / 16) (digit_glyph false (byte % 16) ∷ []) (one_more (byte % 16) [] refl))
+
 pub by_quiet : (by : List ℕ) → Quiet by → Quiet (by_text by)
 by_quiet by q = cases (length by == 0)
   where
-    cases : (b : Bool) → Quiet (cond b [] (codes " by " ++ by))
+    cases : (b : Bool) → Quiet (cond b [] (codes " by " ++ shown_note by))
     cases true = word [] refl
-    cases false = word (codes " by ") refl ⊕ q
+    cases false = word (codes " by ") refl ⊕ shown_quiet by
 
 pub note_quiet : (by : List ℕ) → Quiet by → Quiet (note_text by)
 note_quiet by q = cases (length by == 0)

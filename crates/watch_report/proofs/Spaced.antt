@@ -30,3 +30,7 @@ pub three_pieces : (o a b c x y z : List ℕ) → x ≡ o ++ a → y ≡ x ++ b 
 three_pieces o a b c x y z e f g =
     g ∙ ap (λ (t : List ℕ). t ++ c) (f ∙ ap (λ (t : List ℕ). t ++ b) e)
     ∙ append_assoc (o ++ a) b c ∙ append_assoc o a (b ++ c) ∙ ap (λ (t : List ℕ). o ++ t) (sym (append_assoc a b c))
+
+pub six_pieces : (o a b c d p q x y z w v u : List ℕ) → x ≡ o ++ a → y ≡ x ++ b → z ≡ y ++ c → w ≡ z ++ d → v ≡ w ++ p → u ≡ v ++ q → u ≡ o ++ (a ++ b ++ c ++ d ++ p ++ q)
+six_pieces o a b c d p q x y z w v u e f g h i j =
+    j ∙ ap (λ (t : List ℕ). t ++ q) (five_pieces o a b c d p x y z w v e f g h i) ∙ append_assoc o (a ++ b ++ c ++ d ++ p) q

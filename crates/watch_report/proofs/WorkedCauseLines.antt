@@ -54,6 +54,15 @@ of_kernel_alone = refl
 pub alike : lines.alike
 alike = refl
 
+pub by_reach : lines.by_reach
+by_reach = refl
+
+pub reuse_before_reach : lines.reuse_before_reach
+reuse_before_reach = refl
+
+pub users_before_reach : lines.users_before_reach
+users_before_reach = refl
+
 pub none : lines.none
 none = refl
 
@@ -73,8 +82,16 @@ pub last_first : lines.last_first
 unfolding number_of_first
 last_first is = let other : 1 ≡ 2 = ap number_of_first is in omega (arith, other)
 
+pub more_before_used : lines.more_before_used
+unfolding number_of_first
+more_before_used is = let other : 1 ≡ 2 = ap number_of_first is in omega (arith, other)
+
+pub not_reached_before_reachable : lines.not_reached_before_reachable
+unfolding number_of_first
+not_reached_before_reachable is = let other : 1 ≡ 2 = ap number_of_first is in omega (arith, other)
+
 pub ruleset cause_texts = (no_flush, no_fence, other_harts, other_spaces, spaces_of_kernel, other_pages, not_done)
 
 pub ruleset cause_lines = (claim_begins, free_begins, one_finding, one_kind, each_kind)
 
-pub ruleset orders = (one_of_each, of_kernel_alone, alike, none, kernels_first, fewer_first, last_first)
+pub ruleset orders = (one_of_each, of_kernel_alone, alike, none, kernels_first, fewer_first, last_first, by_reach, reuse_before_reach, users_before_reach, more_before_used, not_reached_before_reachable)

@@ -18,6 +18,7 @@ use Rattle.watch_engine.specs.WorkedWarnings.{AreGiven, free_warning, not_fenced
 use Rattle.watch_report.specs.declared.filter.Filter.{Filter}
 use Rattle.watch_report.specs.Filters.{takes, takes_of}
 use Rattle.watch_report.specs.VerdictLines.{GivesVerdict}
+use Rattle.watch_report.specs.NoteLines.{most_harts}
 use Rattle.watch_report.specs.WorkedFilters as rows
 use Rattle.watch_report.proofs.FilterLemmas.{same_taken}
 
@@ -78,11 +79,11 @@ counted_alone = (refl, refl)
 pub ruleset told = (without_a_filter, one_hart, first_address, last_address, address_within, address_behind, users_kind, kernels_kind, other_kind, two_tests, three_tests, none_passes, counted_alone)
 
 pub cause_of_use : rows.cause_of_use
-unfolding digits
+unfolding digits most_harts
 cause_of_use = (refl, refl)
 
 pub causes_of_hart : rows.causes_of_hart
-unfolding digits
+unfolding digits most_harts
 causes_of_hart = (refl, refl)
 
 pub no_cause : rows.no_cause

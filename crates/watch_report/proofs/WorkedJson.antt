@@ -6,11 +6,13 @@ use Rattle.std.specs.Str.{chars, is_utf8}
 use Rattle.std.specs.Str.Lossy.{utf8_error_len, utf8_lossy, utf8_valid_len}
 use Rattle.json.specs.Print.{escape_byte, print_from}
 use Rattle.watch_report.specs.JsonObjects.{cause_fields, counts_fields, entry_fields, field, since_fields, verdict_fields}
+use Rattle.watch_report.specs.NoteLines.{most_harts}
+use Rattle.watch_report.specs.NoteObjects.{found_fields, group_fields, note_fields, numbers_field, reach_fields, stale_fields}
 use Rattle.watch_report.specs.WorkedJson as rows
 
 -- what a row computes with
 unfoldable pub computing : Unit {0}
-unfolding digits encode_utf8 chars is_utf8 utf8_error_len utf8_lossy utf8_valid_len escape_byte print_from field verdict_fields entry_fields since_fields cause_fields counts_fields
+unfolding digits most_harts numbers_field found_fields stale_fields note_fields group_fields reach_fields encode_utf8 chars is_utf8 utf8_error_len utf8_lossy utf8_valid_len escape_byte print_from field verdict_fields entry_fields since_fields cause_fields counts_fields
 computing = tt
 
 pub claim : rows.claim

@@ -1,6 +1,7 @@
 -- The worked reports with a list of what is known, computed.
 use Rattle.std.proofs.Common.{refl}
 use Rattle.std.specs.Fmt.{digits}
+use Rattle.watch_report.specs.NoteLines.{most_harts}
 use Rattle.watch_report.specs.WorkedKnownReports as rows
 use Rattle.watch_report.proofs.WorkedJson.{computing}
 
@@ -9,7 +10,7 @@ unfolding digits
 other_verdict = (refl, refl)
 
 pub other_cause : rows.other_cause
-unfolding digits
+unfolding digits most_harts
 other_cause = (refl, refl)
 
 pub other_count : rows.other_count
@@ -25,7 +26,7 @@ unfolding digits
 all_verdicts = (refl, refl)
 
 pub all_causes : rows.all_causes
-unfolding digits
+unfolding digits most_harts
 all_causes = (refl, refl)
 
 pub later_verdict : rows.later_verdict
@@ -41,7 +42,7 @@ unfolding digits
 use_is_told = (refl, refl)
 
 pub cause_of_use : rows.cause_of_use
-unfolding digits
+unfolding digits most_harts
 cause_of_use = (refl, refl)
 
 pub count_of_use : rows.count_of_use

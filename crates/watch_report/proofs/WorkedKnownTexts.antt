@@ -66,10 +66,19 @@ empty_note = refl
 pub note_of_any_bytes : rows.note_of_any_bytes
 note_of_any_bytes = refl
 
+pub used_alone : rows.used_alone
+used_alone = refl
+
+pub reachable_alone : rows.reachable_alone
+reachable_alone = refl
+
+pub reach_before_addresses : rows.reach_before_addresses
+reach_before_addresses = refl
+
 pub with_all : rows.with_all
 with_all = refl
 
-pub ruleset entries = (no_line, silent_lines, any_of_users, without_a_feed, later_lines, first_free, first_reuse, first_claim, first_use, no_flush, no_fence, other_hart, other_asid, other_page, not_done, of_addresses, with_a_note, note_after_a_hash, note_in_a_note, empty_note, note_of_any_bytes, with_all)
+pub ruleset entries = (no_line, silent_lines, any_of_users, without_a_feed, later_lines, first_free, first_reuse, first_claim, first_use, no_flush, no_fence, other_hart, other_asid, other_page, not_done, of_addresses, with_a_note, note_after_a_hash, note_in_a_note, empty_note, note_of_any_bytes, used_alone, reachable_alone, reach_before_addresses, with_all)
 
 pub other_owner : rows.other_owner
 other_owner = refl
@@ -88,6 +97,15 @@ verdict_alone = refl
 
 pub other_reason : rows.other_reason
 other_reason = refl
+
+pub other_reach : rows.other_reach
+other_reach = refl
+
+pub two_reaches : rows.two_reaches
+two_reaches = refl
+
+pub reach_behind_addresses : rows.reach_behind_addresses
+reach_behind_addresses = refl
 
 pub prefixed_address : rows.prefixed_address
 prefixed_address = refl
@@ -143,7 +161,7 @@ two_spaces_before_a_note = refl
 pub first_of_two : rows.first_of_two
 first_of_two = refl
 
-pub ruleset faults = (other_owner, owner_alone, other_verdict, verdict_with_its_owner, verdict_alone, other_reason, prefixed_address, long_address, start_alone, start_before_a_note, other_size, word_too_many, line_of_windows, note_of_windows, empty_line_of_windows, return_in_a_line, tab_for_a_space, byte_behind_ascii, no_space_before_a_note, two_spaces, space_at_the_end, space_in_front, two_spaces_before_a_note, first_of_two)
+pub ruleset faults = (other_owner, owner_alone, other_verdict, verdict_with_its_owner, verdict_alone, other_reason, other_reach, two_reaches, reach_behind_addresses, prefixed_address, long_address, start_alone, start_before_a_note, other_size, word_too_many, line_of_windows, note_of_windows, empty_line_of_windows, return_in_a_line, tab_for_a_space, byte_behind_ascii, no_space_before_a_note, two_spaces, space_at_the_end, space_in_front, two_spaces_before_a_note, first_of_two)
 
 pub told_return : rows.told_return
 unfolding digits

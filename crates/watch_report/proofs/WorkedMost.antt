@@ -1,6 +1,7 @@
 -- The worked reports of at most so many, and those in JSON, computed.
 use Rattle.std.proofs.Common.{refl}
 use Rattle.std.specs.Fmt.{digits}
+use Rattle.watch_report.specs.NoteLines.{most_harts}
 use Rattle.watch_report.specs.WorkedMost as rows
 use Rattle.watch_report.proofs.WorkedJson.{computing}
 
@@ -29,19 +30,19 @@ unfolding digits
 no_cause = (refl, refl)
 
 pub one_cause : rows.one_cause
-unfolding digits
+unfolding digits most_harts
 one_cause = (refl, refl)
 
 pub one_of_two_causes : rows.one_of_two_causes
-unfolding digits
+unfolding digits most_harts
 one_of_two_causes = (refl, refl)
 
 pub two_causes : rows.two_causes
-unfolding digits
+unfolding digits most_harts
 two_causes = (refl, refl)
 
 pub fewer_causes : rows.fewer_causes
-unfolding digits
+unfolding digits most_harts
 fewer_causes = (refl, refl)
 
 pub ruleset firsts = (no_verdict, one_verdict, two_verdicts, fewer_verdicts, one_of_a_record, no_cause, one_cause, one_of_two_causes, two_causes, fewer_causes)

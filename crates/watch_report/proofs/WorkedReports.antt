@@ -19,6 +19,7 @@ use Rattle.watch_report.specs.declared.detail.Detail.TheVariants.{Causes, Counts
 use Rattle.watch_report.specs.Reports.{TellsVerdict, WholeText, end_text, told_of_taken, told_text}
 use Rattle.watch_report.specs.Orders.{order_key}
 use Rattle.watch_report.specs.VerdictLines.{AreGiven, GivesVerdict}
+use Rattle.watch_report.specs.NoteLines.{most_harts}
 use Rattle.watch_report.specs.WorkedReports as rows
 use Rattle.watch_report.proofs.FilterLemmas.{all_taken}
 use Rattle.watch_report.proofs.KnownLaws.{told_is_due}
@@ -227,11 +228,11 @@ unfolding digits
 lines_of_verdicts = (refl, refl)
 
 pub lines_of_cause : rows.lines_of_cause
-unfolding digits
+unfolding digits most_harts
 lines_of_cause = (refl, refl)
 
 pub lines_of_causes : rows.lines_of_causes
-unfolding digits
+unfolding digits most_harts
 lines_of_causes = (refl, refl)
 
 pub counts_alone : rows.counts_alone
@@ -249,7 +250,7 @@ unfolding digits
 no_block says = differ _ _ refl refl says.0
 
 pub no_total : rows.no_total
-unfolding digits
+unfolding digits most_harts
 no_total says = differ _ _ refl refl says.1
 
 pub block_of_counts : rows.block_of_counts

@@ -11,6 +11,10 @@ pub given_out : lines.given_out
 unfolding digits
 given_out = refl
 
+pub other_bytes : lines.other_bytes
+unfolding digits
+other_bytes = refl
+
 pub below_a_global_pointer : lines.below_a_global_pointer
 unfolding digits
 below_a_global_pointer = refl
@@ -55,7 +59,7 @@ pub one_before_a_wrong_line : lines.one_before_a_wrong_line
 unfolding digits
 one_before_a_wrong_line = refl
 
-pub ruleset warning_lines = (given_back, given_out, below_a_global_pointer, claimed, used)
+pub ruleset warning_lines = (given_back, given_out, other_bytes, below_a_global_pointer, claimed, used)
 
 pub none_by_design : lines.none_by_design
 unfolding digits

@@ -2,12 +2,15 @@
 use Rattle.std.specs.Prelude.{ℕ, Bool, true, false, ◌≡◌, ◌+◌, ◌<◌, ◌≤◌, length, nat_lt, not, slice_index_or, if◌then◌else◌, codes, List, [], ◌∷◌, ◌++◌}
 use Rattle.std.specs.Fmt.{decimal}
 use Rattle.watch_causes.specs.declared.finding.Cause.{Cause}
+use Rattle.watch_causes.specs.declared.reach.Reach.{Reach}
 use Rattle.watch_causes.specs.declared.reason.Reason.{Reason}
 use Rattle.watch_causes.specs.declared.reason.Reason.TheVariants.{NoFlush, NoFence, OtherHarts, OtherSpaces, OtherPages, NotDone}
 use Rattle.watch_causes.specs.declared.tally.Tally.{Tally}
 use Rattle.watch_causes.specs.declared.tally.Verdicts.{Verdicts}
 use Rattle.watch_report.specs.declared.cause_line.NumberedTally.{NumberedTally}
+use Rattle.watch_report.specs.declared.found.Found.{Found}
 use Rattle.watch_report.specs.declared.warning.Warning.{Warning}
+use Rattle.watch_report.specs.NoteGroups.{best_reach, is_reachable, is_used, of_cause}
 use Rattle.watch_report.specs.Warnings.{counted_text, place_text, verdict_counts_text, verdict_text, warning_line}
 
 -- what is global is the kernel's
@@ -76,12 +79,21 @@ is_of_users one = not one.tally.cause.global
 abbrev pub has_reuse : NumberedTally → Bool
 has_reuse one = nat_lt 0 one.tally.verdicts.reuse
 
--- users' pages before the kernel's; then a cause with a `reuse` before one without; then more findings
--- before fewer
+-- of the reach of its findings, the best
+abbrev pub has_used : NumberedTally → Bool
+has_used one = is_used one.reach
+
+abbrev pub has_reachable : NumberedTally → Bool
+has_reachable one = is_reachable one.reach
+
+-- users' pages before the kernel's; then a cause with a `reuse` before one without; then used before
+-- reachable before not reached; then more findings before fewer
 abbrev pub comes_before : NumberedTally → NumberedTally → Bool
 comes_before a b =
     by_test (is_of_users a) (is_of_users b)
-    (by_test (has_reuse a) (has_reuse b) (nat_lt b.tally.findings a.tally.findings))
+    (by_test (has_reuse a) (has_reuse b)
+    (by_test (has_used a) (has_used b)
+    (by_test (has_reachable a) (has_reachable b) (nat_lt b.tally.findings a.tally.findings))))
 
 -- none comes before one that stands in front of it
 abbrev pub AreInOrder : List NumberedTally → Type 0
@@ -95,19 +107,26 @@ placed one [] = one ∷ []
 placed one (next ∷ ones) =
     if comes_before next one then next ∷ placed one ones else one ∷ next ∷ ones
 
-abbrev pub numbered : ℕ → Tally → NumberedTally
-numbered number t = record { number = number; tally = t }
+abbrev pub numbered : ℕ → Reach → Tally → NumberedTally
+numbered number reach t = record { number = number; reach = reach; tally = t }
+
+-- with the best reach of its findings
+abbrev pub numbered_by : List Found → ℕ → Tally → NumberedTally
+numbered_by founds number t = numbered number (best_reach (of_cause number founds)) t
 
 -- in the order in which they began; the first of these has this number
-abbrev pub numbered_from : ℕ → List Tally → List NumberedTally
-numbered_from number [] = []
-numbered_from number (t ∷ tallies) = numbered number t ∷ numbered_from (number + 1) tallies
+abbrev pub numbered_from : List Found → ℕ → List Tally → List NumberedTally
+numbered_from founds number [] = []
+numbered_from founds number (t ∷ tallies) =
+    numbered_by founds number t ∷ numbered_from founds (number + 1) tallies
 
 -- the first of these has this number
-abbrev pub ordered_from : ℕ → List Tally → List NumberedTally
-ordered_from number [] = []
-ordered_from number (t ∷ tallies) = placed (numbered number t) (ordered_from (number + 1) tallies)
+abbrev pub ordered_from : List Found → ℕ → List Tally → List NumberedTally
+ordered_from founds number [] = []
+ordered_from founds number (t ∷ tallies) =
+    placed (numbered_by founds number t) (ordered_from founds (number + 1) tallies)
 
--- the tallies, which come in the order in which their causes began, in the order of the end
-abbrev pub ordered : List Tally → List NumberedTally
-ordered tallies = ordered_from 1 tallies
+-- the tallies, which come in the order in which their causes began, with these findings, in the order of
+-- the end
+abbrev pub ordered : List Found → List Tally → List NumberedTally
+ordered founds tallies = ordered_from founds 1 tallies

@@ -1,11 +1,14 @@
 -- Each object of JSON stands on a line of its own.
-use Rattle.std.specs.Prelude.{◌≡◌, ℕ, codes, List, ◌++◌, Option}
+use Rattle.std.specs.Prelude.{◌≡◌, ℕ, Bool, codes, List, ◌++◌, Option}
 use Rattle.json.specs.Token.{Token}
 use Rattle.watch_causes.specs.declared.finding.Cause.{Cause}
 use Rattle.watch_report.specs.declared.cause_line.NumberedTally.{NumberedTally}
 use Rattle.watch_report.specs.declared.counts.VerdictCounts.{VerdictCounts}
+use Rattle.watch_report.specs.declared.found.Found.{Found}
+use Rattle.watch_report.specs.declared.note_group.NoteGroup.{NoteGroup}
 use Rattle.watch_report.specs.declared.warning.Warning.{Warning}
 use Rattle.watch_report.specs.JsonObjects.{cause_object, json_line, known_object, summary_object, total_object, verdict_object}
+use Rattle.watch_report.specs.NoteObjects.{found_object, note_object}
 use Rattle.watch_report.specs.ReadStories.{HasNoFeed}
 
 -- its text ends in a line feed, and has no other
@@ -32,3 +35,13 @@ abbrev pub each_summary : Type 0
 each_summary =
     (file : List ℕ) (records : ℕ) (wrong : Option ℕ) (user kernel : VerdictCounts)
     (design : Option ℕ) → IsOnALine (summary_object file records wrong user kernel design)
+
+abbrev pub each_finding : Type 0
+each_finding =
+    (file : List ℕ) (line since : ℕ) (stale_by : List ℕ) (f : Found)
+    → IsOnALine (found_object file line since stale_by f)
+
+abbrev pub each_note : Type 0
+each_note =
+    (file : List ℕ) (number : ℕ) (by : List ℕ) (global : Bool) (g : NoteGroup)
+    → IsOnALine (note_object file number by global g)

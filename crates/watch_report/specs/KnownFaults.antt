@@ -20,9 +20,10 @@ known_reason_text NoVerdict =
     codes "no first verdict behind the owner: free, reuse, claim or use, or - for any"
 known_reason_text NoReason =
     codes "no reason behind the verdict: no-flush, no-fence, other-hart, other-asid, other-page or not-done, or - for any"
-known_reason_text NoAddress = codes "START is no hexadecimal number"
+known_reason_text NoAddress =
+    codes "no START, a hexadecimal number, and no reach: used, reachable or not-reached"
 known_reason_text NoSize = codes "no SIZE behind START, a hexadecimal number"
-known_reason_text Excess = codes "a word too many: OWNER FIRST REASON [START SIZE] [@NOTE]"
+known_reason_text Excess = codes "a word too many: OWNER FIRST REASON [REACH] [START SIZE] [@NOTE]"
 
 -- the number of the line, and the reason
 abbrev pub known_fault_text : KnownFault → List ℕ

@@ -1,6 +1,6 @@
 -- What the text of a list of what is known says: its entries, or the first line that is none.
 --
---     OWNER FIRST REASON [START SIZE] [@NOTE]
+--     OWNER FIRST REASON [REACH] [START SIZE] [@NOTE]
 use Rattle.std.specs.Prelude.{ℕ, Bool, ◌≡◌, ◌==◌, ◌||◌, ◌+◌, nat_eq, not, codes, List, [], ◌∷◌, ◌++◌, length, true, false}
 use Rattle.std.specs.Prelude.{Option, Some, None, option_map, Result, Ok, Err, if◌then◌else◌}
 use denote.Ref.{Bor}
@@ -9,7 +9,9 @@ use Rattle.std.specs.Option.{ok_or}
 use Rattle.std.specs.Str.{bytes_eq}
 use Rattle.watch.specs.declared.trace.AddressRange.{AddressRange}
 use Rattle.watch_causes.specs.declared.known.Known.{Known}
-use Rattle.watch_causes.specs.KnownFindings.{KnownEntry, known_entry}
+use Rattle.watch_causes.specs.KnownFindings.{KnownEntry, is_of_reach, known_entry}
+use Rattle.watch_causes.specs.declared.reach.Reach.{Reach}
+use Rattle.watch_causes.specs.declared.reach.Reach.TheVariants.{Used as UsedReach, Reachable, NotReached}
 use Rattle.watch_causes.specs.declared.reason.Reason.{Reason}
 use Rattle.watch_causes.specs.declared.reason.Reason.TheVariants.{NoFlush, NoFence, OtherHarts, OtherSpaces, OtherPages, NotDone}
 use Rattle.watch_report.specs.declared.known_fault.KnownError.{KnownError}
@@ -21,9 +23,10 @@ use Rattle.watch_report.specs.declared.known_words.KnownTests.{KnownTests}
 use Rattle.watch_report.specs.CauseLines.{owner_text}
 use Rattle.watch_report.specs.Fields.{fields_of, hexadecimal_field}
 use Rattle.watch_report.specs.Filters.{verdict_in}
-use Rattle.watch_report.specs.LineFaults.{is_printable, words_after}
-use Rattle.watch_report.specs.ReasonWords.{reason_word}
+use Rattle.watch_report.specs.LineFaults.{words_after}
+use Rattle.watch_report.specs.ReasonWords.{reach_word, reason_word}
 use Rattle.watch_report.specs.Records.{range_at}
+use Rattle.watch_report.specs.ShownNotes.{is_plain}
 use Rattle.watch_report.specs.TraceLines.{before_note, begins_note, note_of}
 use Rattle.watch_report.specs.TraceText.{lines_of}
 
@@ -43,6 +46,10 @@ reason_in word =
     find (λ reason. bytes_eq word (reason_word reason))
     (NoFlush ∷ NoFence ∷ OtherHarts ∷ OtherSpaces ∷ OtherPages ∷ NotDone ∷ [])
 
+abbrev pub reach_in : List ℕ → Option Reach
+reach_in word =
+    find (λ reach. bytes_eq word (reach_word reach)) (UsedReach ∷ Reachable ∷ NotReached ∷ [])
+
 -- `-` is no test
 abbrev pub or_any : {A : Type 0} → (List ℕ → Option A) → List ℕ → Option (Option A)
 or_any read word = if bytes_eq word (codes "-") then Some None else option_map Some (read word)
@@ -55,6 +62,15 @@ words_of left = words_after left (λ text. text.now)
 abbrev pub next : {A : Type 0} → (List ℕ → Option A) → List (List ℕ) → Option (A × List (List ℕ))
 next read [] = None
 next read (word ∷ words) = option_map (λ x. (x, words)) (read word)
+
+-- the reach, if the first of the words is one, and the words behind it
+abbrev pub if_reach : Option Reach → List ℕ → List (List ℕ) → Option Reach × List (List ℕ)
+if_reach None word words = (None, word ∷ words)
+if_reach (Some reach) word words = (Some reach, words)
+
+abbrev pub next_reach : List (List ℕ) → Option Reach × List (List ℕ)
+next_reach [] = (None, [])
+next_reach (word ∷ words) = if_reach (reach_in word) word words
 
 abbrev pub if_last : AddressRange → List (List ℕ) → Result (Option AddressRange) KnownReason
 if_last range [] = Ok (Some range)
@@ -73,8 +89,14 @@ tests_in words = do
   owner ← ok_or (next owner_in words) reasons.NoOwner
   first ← ok_or (next (or_any (verdict_in false)) owner.1) reasons.NoVerdict
   reason ← ok_or (next (or_any reason_in) first.1) reasons.NoReason
-  range ← range_in reason.1
-  Ok (record { global = owner.0; first = first.0; reason = reason.0; range = range })
+  range ← range_in (next_reach reason.1).1
+  Ok (record {
+    global = owner.0;
+    first = first.0;
+    reason = reason.0;
+    reach = (next_reach reason.1).0;
+    range = range;
+  })
 
 -- ---- a line
 
@@ -87,9 +109,6 @@ abbrev pub body_tests : Option (List ℕ) → Result KnownTests KnownReason
 body_tests None = Err reasons.NoSpace
 body_tests (Some body) =
     if has_space_too_many (fields_of body) then Err reasons.Space else tests_in (fields_of body)
-
-abbrev pub is_plain : ℕ → Bool
-is_plain byte = byte == 32 || is_printable byte
 
 -- the first byte before the note that no word has
 abbrev pub other_byte : List ℕ → Option ℕ
@@ -121,6 +140,8 @@ entry_at line note tests =
       global = tests.global;
       first = tests.first;
       reason = tests.reason;
+      reach = tests.reach;
+      among = λ f. is_of_reach tests.reach None;
       range = tests.range;
       note = note;
     }

@@ -4,12 +4,14 @@ use Rattle.pte.specs.declared.scheme.Scheme.{Scheme}
 use Rattle.watch.specs.declared.trace.Record.{Record}
 use Rattle.watch.specs.declared.trace.Record.TheVariants.{ClaimBegin, ClaimEnd}
 use Rattle.watch.specs.Trace.{Trace, claim_of}
+use Rattle.watch_causes.specs.Stories.{IsStory}
 use Rattle.watch_engine.specs.declared.warning.Warning.{Warning}
 use Rattle.watch_engine.specs.Open.{claim_begun}
 use Rattle.watch_report.specs.declared.fault.ReportFault.{ReportFault}
 use Rattle.watch_report.specs.declared.fault.ReportFault.TheVariants.{Unreadable, Line, Output, BrokenPipe, BrokenPipeAtLine, NoMemory}
 use Rattle.watch_report.specs.declared.filter.Filter.{Filter}
 use Rattle.watch_report.specs.declared.header.Header.{Header}
+use Rattle.watch_report.specs.declared.prefix.Found.{Found}
 use Rattle.watch_report.specs.declared.prefix.Prefix.{Prefix}
 use Rattle.watch_report.specs.Explaining.{Asked, Gives, HasVerdict, IsTold, Tells, TellsAt, made_in, up_to}
 use Rattle.watch_report.specs.Filters.{AreTakenAt}
@@ -18,7 +20,7 @@ use Rattle.watch_report.specs.Orders.{IsInOrder}
 use Rattle.watch_report.specs.Past.{ArePast}
 use Rattle.watch_report.specs.TraceLines.{line_in}
 use Rattle.watch_report.specs.TraceText.{Noted, body_of, fault_in, faulty_line, has_no_form, header_of, trace_of, with_record}
-use Rattle.watch_report.specs.VerdictLines.{GivesAt}
+use Rattle.watch_report.specs.VerdictLines.{GivesAt, trigger_of}
 
 -- these are the records that were read
 pub record IsPrefix (records : List Noted) (p : Prefix) : Type 0 where
@@ -54,6 +56,19 @@ abbrev pub first_of : List Warning → Option Warning
 first_of [] = None
 first_of (first ∷ others) = Some first
 
+-- a verdict there, the first that the filter takes, and its story
+pub record IsFound (filter : Filter) (scheme : Scheme) (newest : Noted) (records : List Noted)
+    (found : Found) : Type 0 where
+  pub acts : trigger_of records newest.made ≡ Some found.trigger
+  pub first : IsFirst filter scheme newest.made (trace_of records) (Some found.first)
+  pub story : IsStory scheme (made_in (newest ∷ records)) found.first found.parts.items
+
+-- whether there is one
+abbrev pub FindsAt : Filter → Scheme → Noted → List Noted → Option Found → Type 0
+FindsAt filter scheme newest records None =
+    ¬ GivesAt filter scheme newest.made (trace_of records)
+FindsAt filter scheme newest records (Some found) = IsFound filter scheme newest records found
+
 -- whether a story is told of one, and its text
 abbrev pub TellsOf : Asked → Header → Noted → List Noted → Bool → List ℕ → Type 0
 TellsOf asked header newest records true text = IsTold asked header newest records text
@@ -79,25 +94,3 @@ ExplainsLine asked header records line (Err NoMemory) text = Unit {0}
 ExplainsLine asked header records line (Err Output) text = ⊥
 ExplainsLine asked header records line (Err (BrokenPipe warned)) text = ⊥
 ExplainsLine asked header records line (Err (BrokenPipeAtLine number fault warned)) text = ⊥
-
--- ---- in the whole trace
-
--- for what its first line says and the lines after it up to that one
-abbrev pub FindsBy : Asked → Result Header (List ℕ) → List (List ℕ) → Result Bool ReportFault → List ℕ
-    → Type 0
-FindsBy asked said lines (Ok true) text =
-    (faulty_line said lines ≡ None) × Tells asked said lines text
-FindsBy asked said lines (Ok false) text =
-    (faulty_line said lines ≡ None) × ¬ Gives asked said lines
-FindsBy asked said lines (Err (Line number fault warned)) text =
-    (faulty_line said lines ≡ Some number) × (fault_in said lines number ≡ Some fault)
-    × (warned ≡ false)
-FindsBy asked said lines (Err Unreadable) text = Unit {0}
-FindsBy asked said lines (Err NoMemory) text = Unit {0}
-FindsBy asked said lines (Err Output) text = ⊥
-FindsBy asked said lines (Err (BrokenPipe warned)) text = ⊥
-FindsBy asked said lines (Err (BrokenPipeAtLine number fault warned)) text = ⊥
-
-abbrev pub Finds : Asked → List ℕ → Result Bool ReportFault → List ℕ → Type 0
-Finds asked all result text =
-    FindsBy asked (header_of all) (up_to asked.line (body_of all)) result text

@@ -1,16 +1,19 @@
 -- What a report tells, of the verdicts that its filter takes and whose finding is not known: each verdict
 -- or each cause as its record comes, and the last lines.
-use Rattle.std.specs.Prelude.{ℕ, Bool, true, ◌≡◌, ◌+◌, List, [], ◌∷◌, ◌++◌, Option, Some, None, drop, length}
+use Rattle.std.specs.Prelude.{ℕ, Bool, true, ◌≡◌, ◌+◌, List, [], ◌∷◌, ◌++◌, Option, Some, None, drop, length, map}
 use Rattle.pte.specs.declared.scheme.Scheme.{Scheme}
 use Rattle.watch_causes.specs.declared.tally.Tally.{Tally}
+use Rattle.watch_causes.specs.Begins.{begun_of}
 use Rattle.watch_causes.specs.Judging.{verdicts_of}
 use Rattle.watch_causes.specs.KnownFindings.{counts_of as known_counts}
+use Rattle.watch_causes.specs.Reaches.{reach_of}
 use Rattle.watch_causes.specs.Tallies.{tallies_of}
 use Rattle.watch_engine.specs.declared.warning.Warning.{Warning}
 use Rattle.watch_report.specs.declared.cause_line.NumberedTally.{NumberedTally}
 use Rattle.watch_report.specs.declared.detail.Detail.{Detail}
 use Rattle.watch_report.specs.declared.detail.Detail.TheVariants.{Causes, Counts, Verdicts}
 use Rattle.watch_report.specs.declared.filter.Filter.{Filter}
+use Rattle.watch_report.specs.declared.found.Found.{Found}
 use Rattle.watch_report.specs.declared.options.Form.{Form}
 use Rattle.watch_report.specs.declared.options.Form.TheVariants.{Text}
 use Rattle.watch_report.specs.declared.options.Options.{Options}
@@ -19,6 +22,8 @@ use Rattle.watch_report.specs.KnownVerdicts.{has_verdict, unknown, verdicts_so_f
 use Rattle.watch_report.specs.declared.warning.Trigger.{Trigger}
 use Rattle.watch_report.specs.CauseLines.{ordered}
 use Rattle.watch_report.specs.Forms.{at_most, block_as, left_after, total_as}
+use Rattle.watch_report.specs.NoteForms.{founds_as, notes_as}
+use Rattle.watch_report.specs.NoteGroups.{founds_of, note_groups, of_cause}
 use Rattle.watch_report.specs.TraceText.{Noted, line_at, note_at, trace_of}
 use Rattle.watch_report.specs.VerdictLines.{AreTakenBy, printed_of, record_lines, summary_of, trigger_of, verdicts_in}
 
@@ -77,12 +82,34 @@ record_blocks form most file scheme newest records warnings given =
     blocks_behind form file (length (tallies_after scheme records given)) newest records
     (at_most most (tallies_after scheme (newest ∷ records) (warnings ∷ given)))
 
--- a line for each cause, on the line of its first verdict
-abbrev pub total_lines : Form → List ℕ → List Noted → List NumberedTally → List ℕ
-total_lines form file records [] = []
-total_lines form file records (one ∷ ones) =
+-- the findings of these causes after the records, each with its reach
+abbrev pub founds_after : Scheme → List Noted → List (List Warning) → List Tally → List Found
+founds_after scheme records given tallies =
+    founds_of tallies (begun_of scheme (trace_of records) given)
+    (map (reach_of scheme (trace_of records) given) (begun_of scheme (trace_of records) given))
+
+-- of the findings of a cause, the notes of the records that made their pages stale
+abbrev pub notes_below : Form → List ℕ → List Noted → List Found → NumberedTally → List ℕ
+notes_below form file records founds one =
+    notes_as form file (note_at records) one
+    (note_groups (note_at records) (of_cause one.number founds))
+
+-- a line for each cause, on the line of its first verdict, and its notes below it
+abbrev pub total_lines : Form → List ℕ → List Noted → List Found → List NumberedTally → List ℕ
+total_lines form file records founds [] = []
+total_lines form file records founds (one ∷ ones) =
     total_as form file (line_at records one.tally.example.number) one
-    ++ total_lines form file records ones
+    ++ notes_below form file records founds one ++ total_lines form file records founds ones
+
+-- of these causes and their findings
+abbrev pub totals_of : Form → List ℕ → List Noted → List Found → List Tally → List ℕ
+totals_of form file records founds tallies =
+    founds_as form file records founds ++ total_lines form file records founds (ordered founds tallies)
+
+-- after the records, of those of the causes that are told
+abbrev pub totals_after : Form → List ℕ → Scheme → List Noted → List (List Warning) → List Tally → List ℕ
+totals_after form file scheme records given told =
+    totals_of form file records (founds_after scheme records given told) told
 
 -- ---- by what is told
 
@@ -113,8 +140,8 @@ told_text told scheme (newest ∷ records) (warnings ∷ given) =
 abbrev pub totals_for : Detail → Options → List ℕ → Scheme → List Noted → List (List Warning) → List ℕ
 totals_for Verdicts options file scheme records given = []
 totals_for Causes options file scheme records given =
-    total_lines options.form file records
-    (ordered (at_most options.most (tallies_after scheme records given)))
+    totals_after options.form file scheme records given
+    (at_most options.most (tallies_after scheme records given))
 totals_for Counts options file scheme records given = []
 
 abbrev pub totals_by : Options → List ℕ → Scheme → List Noted → List (List Warning) → List ℕ

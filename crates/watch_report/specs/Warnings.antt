@@ -12,6 +12,7 @@ use Rattle.watch_report.specs.declared.counts.VerdictCounts.{VerdictCounts}
 use Rattle.watch_report.specs.declared.warning.Trigger.{Trigger}
 use Rattle.watch_report.specs.declared.warning.Trigger.TheVariants.{GivenBack, GivenOut, ClaimedSince, UsedAt}
 use Rattle.watch_report.specs.declared.warning.Warning.{Warning}
+use Rattle.watch_report.specs.ShownNotes.{shown_note}
 
 -- lower case, without a prefix and leading zeros
 abbrev pub hexadecimal : ℕ → List ℕ
@@ -50,7 +51,7 @@ entry_text e =
 
 -- the note of a record, if it has one
 abbrev pub by_text : List ℕ → List ℕ
-by_text by = if length by == 0 then [] else codes " by " ++ by
+by_text by = if length by == 0 then [] else codes " by " ++ shown_note by
 
 abbrev pub verdict_of : Trigger → Verdict
 verdict_of (GivenBack frames) = Free

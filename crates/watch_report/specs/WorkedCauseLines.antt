@@ -5,12 +5,15 @@ use Rattle.watch.specs.declared.trace.Verdict.TheVariants.{Free, Reuse, Claimed,
 use Rattle.watch.specs.WorkedTraces.{page, writable}
 use Rattle.watch_engine.specs.WorkedWarnings.{warning}
 use Rattle.watch_causes.specs.declared.finding.Cause.{Cause}
+use Rattle.watch_causes.specs.declared.reach.Reach.{Reach}
+use Rattle.watch_causes.specs.declared.reach.Reach.TheVariants as reaches
 use Rattle.watch_causes.specs.declared.reason.Reason.{Reason}
 use Rattle.watch_causes.specs.declared.reason.Reason.TheVariants.{NoFlush, NoFence, OtherHarts, OtherSpaces, OtherPages, NotDone}
 use Rattle.watch_causes.specs.declared.tally.Tally.{Tally}
 use Rattle.watch_causes.specs.declared.tally.Verdicts.{Verdicts}
 use Rattle.watch_causes.specs.WorkedCauses.{counts}
 use Rattle.watch_report.specs.declared.warning.Trigger.TheVariants.{GivenBack, ClaimedSince}
+use Rattle.watch_report.specs.declared.found.Found.{Found}
 use Rattle.watch_report.specs.CauseLines.{block_text, cause_text, numbered, ordered, total_line}
 use Rattle.watch_report.specs.WorkedWarnings.{frames_at, kernel_page, user_page, warning_of}
 
@@ -89,17 +92,17 @@ free_begins =
 
 abbrev pub one_finding : Type 0
 one_finding =
-    total_line (codes "boot.watch") 40 (numbered 3 (tally_of (users Claimed OtherHarts) 1 (counts 1 0 1 1)))
+    total_line (codes "boot.watch") 40 (numbered 3 reaches.NotReached (tally_of (users Claimed OtherHarts) 1 (counts 1 0 1 1)))
     ≡ codes "boot.watch:40: cause 3: user pages, first claim: its flush asked for no fence on this hart; 1 finding: free 1, claim 1, use 1\n"
 
 abbrev pub one_kind : Type 0
 one_kind =
-    total_line (codes "-") 2 (numbered 1 (tally_of (users Used NoFlush) 2 (counts 0 0 0 5)))
+    total_line (codes "-") 2 (numbered 1 reaches.NotReached (tally_of (users Used NoFlush) 2 (counts 0 0 0 5)))
     ≡ codes "-:2: cause 1: user pages, first use: no flush of the page has begun since; 2 findings: use 5\n"
 
 abbrev pub each_kind : Type 0
 each_kind =
-    total_line (codes "a b") 1000 (numbered 12 (tally_of (kernels Free NotDone) 11 (counts 11 2 3 40)))
+    total_line (codes "a b") 1000 (numbered 12 reaches.NotReached (tally_of (kernels Free NotDone) 11 (counts 11 2 3 40)))
     ≡ codes "a b:1000: cause 12: kernel pages, first free: its flush asked for a fence that was not done yet; 11 findings: free 11, reuse 2, claim 3, use 40\n"
 
 -- ---- in which order
@@ -128,31 +131,72 @@ reused_of_kernel = tally_of (kernels Free NoFlush) 10 (counts 10 10 0 0)
 -- users' before the kernel's; reused before others; more findings before fewer
 abbrev pub one_of_each : Type 0
 one_of_each =
-    ordered (few ∷ reused_of_kernel ∷ many ∷ reused ∷ [])
-    ≡ numbered 4 reused ∷ numbered 3 many ∷ numbered 1 few ∷ numbered 2 reused_of_kernel ∷ []
+    ordered [] (few ∷ reused_of_kernel ∷ many ∷ reused ∷ [])
+    ≡ numbered 4 reaches.NotReached reused ∷ numbered 3 reaches.NotReached many ∷ numbered 1 reaches.NotReached few ∷ numbered 2 reaches.NotReached reused_of_kernel ∷ []
 
 abbrev pub of_kernel_alone : Type 0
 of_kernel_alone =
-    ordered (few_of_kernel ∷ many_of_kernel ∷ reused_of_kernel ∷ [])
-    ≡ numbered 3 reused_of_kernel ∷ numbered 2 many_of_kernel ∷ numbered 1 few_of_kernel ∷ []
+    ordered [] (few_of_kernel ∷ many_of_kernel ∷ reused_of_kernel ∷ [])
+    ≡ numbered 3 reaches.NotReached reused_of_kernel ∷ numbered 2 reaches.NotReached many_of_kernel ∷ numbered 1 reaches.NotReached few_of_kernel ∷ []
 
 -- what is alike stays as it began
 abbrev pub alike : Type 0
 alike =
-    ordered (few ∷ as_few ∷ few ∷ [])
-    ≡ numbered 1 few ∷ numbered 2 as_few ∷ numbered 3 few ∷ []
+    ordered [] (few ∷ as_few ∷ few ∷ [])
+    ≡ numbered 1 reaches.NotReached few ∷ numbered 2 reaches.NotReached as_few ∷ numbered 3 reaches.NotReached few ∷ []
+
+-- a finding of the cause with the number
+abbrev pub found_of : ℕ → Reach → Found
+found_of number reach =
+    record {
+      number = number;
+      begun = record { number = 8; warning = warning Free 1 (page writable) 6; cause = users Free NoFlush; fenced = 0 };
+      reach = reach;
+    }
+
+-- used before reachable before not reached, though the others have more findings; the best of a cause
+-- counts
+abbrev pub by_reach : Type 0
+by_reach =
+    ordered
+    (found_of 1 reaches.NotReached ∷ found_of 2 reaches.NotReached ∷ found_of 3 reaches.Reachable ∷ found_of 2 reaches.Used ∷ found_of 3 reaches.NotReached ∷ [])
+    (many ∷ few ∷ as_few ∷ [])
+    ≡ numbered 2 reaches.Used few ∷ numbered 3 reaches.Reachable as_few ∷ numbered 1 reaches.NotReached many ∷ []
+
+-- a cause with a `reuse` comes before one that is used; what is alike in its reach goes by its findings
+abbrev pub reuse_before_reach : Type 0
+reuse_before_reach =
+    ordered (found_of 1 reaches.Used ∷ found_of 2 reaches.Used ∷ found_of 3 reaches.NotReached ∷ []) (few ∷ many ∷ reused ∷ [])
+    ≡ numbered 3 reaches.NotReached reused ∷ numbered 2 reaches.Used many ∷ numbered 1 reaches.Used few ∷ []
+
+-- users' pages before the kernel's, however far these are reached
+abbrev pub users_before_reach : Type 0
+users_before_reach =
+    ordered (found_of 1 reaches.Used ∷ found_of 2 reaches.NotReached ∷ []) (few_of_kernel ∷ few ∷ [])
+    ≡ numbered 2 reaches.NotReached few ∷ numbered 1 reaches.Used few_of_kernel ∷ []
 
 abbrev pub none : Type 0
-none = ordered [] ≡ []
+none = ordered [] [] ≡ []
 
 -- what is not so: the kernel's first, fewer findings first, what is alike the other way round
 abbrev pub kernels_first : Type 0
 kernels_first =
-    ¬ (ordered (few ∷ reused_of_kernel ∷ many ∷ reused ∷ [])
-    ≡ numbered 2 reused_of_kernel ∷ numbered 4 reused ∷ numbered 3 many ∷ numbered 1 few ∷ [])
+    ¬ (ordered [] (few ∷ reused_of_kernel ∷ many ∷ reused ∷ [])
+    ≡ numbered 2 reaches.NotReached reused_of_kernel ∷ numbered 4 reaches.NotReached reused ∷ numbered 3 reaches.NotReached many ∷ numbered 1 reaches.NotReached few ∷ [])
 
 abbrev pub fewer_first : Type 0
-fewer_first = ¬ (ordered (few ∷ many ∷ []) ≡ numbered 1 few ∷ numbered 2 many ∷ [])
+fewer_first = ¬ (ordered [] (few ∷ many ∷ []) ≡ numbered 1 reaches.NotReached few ∷ numbered 2 reaches.NotReached many ∷ [])
 
 abbrev pub last_first : Type 0
-last_first = ¬ (ordered (few ∷ as_few ∷ []) ≡ numbered 2 as_few ∷ numbered 1 few ∷ [])
+last_first = ¬ (ordered [] (few ∷ as_few ∷ []) ≡ numbered 2 reaches.NotReached as_few ∷ numbered 1 reaches.NotReached few ∷ [])
+
+-- nor more findings before a better reach
+abbrev pub more_before_used : Type 0
+more_before_used =
+    ¬ (ordered (found_of 1 reaches.Used ∷ []) (few ∷ many ∷ [])
+    ≡ numbered 2 reaches.NotReached many ∷ numbered 1 reaches.Used few ∷ [])
+
+abbrev pub not_reached_before_reachable : Type 0
+not_reached_before_reachable =
+    ¬ (ordered (found_of 1 reaches.Reachable ∷ found_of 2 reaches.NotReached ∷ []) (few ∷ many ∷ [])
+    ≡ numbered 2 reaches.NotReached many ∷ numbered 1 reaches.Reachable few ∷ [])

@@ -138,6 +138,7 @@ cause_of_use =
     Tells (of_kind false Used) Causes
     (use_line ++ codes "  cause 1: user pages, first use: no flush of the page has begun since\n")
     (codes "a.trace:7: cause 1: user pages, first use: no flush of the page has begun since; 1 finding: use 1\n"
+    ++ codes "  stale by unmap: 1 finding, 1 page of 1 space, hart 1; used 1\n"
     ++ codes "3 records, 1 verdict: use 1\n")
 
 abbrev pub causes_of_hart : Type 0
@@ -145,6 +146,7 @@ causes_of_hart =
     Tells (of_hart 0) Causes
     (other_hart_line ++ codes "  cause 1: user pages, first free: no flush of the page has begun since\n")
     (codes "a.trace:6: cause 1: user pages, first free: no flush of the page has begun since; 1 finding: free 1\n"
+    ++ codes "  stale by unmap: 1 finding, 1 page of 1 space, hart 0; not reached 1\n"
     ++ codes "3 records, 1 verdict: free 1\n")
 
 abbrev pub no_cause : Type 0

@@ -2,6 +2,7 @@
 use Rattle.std.specs.Prelude.{◌≡◌, ℕ, codes, List, [], ◌∷◌, ◌++◌, Some, None}
 use Rattle.json.specs.Token.{Token}
 use Rattle.watch.specs.declared.trace.Verdict.TheVariants.{Free, Reuse, Claimed, Used}
+use Rattle.watch_causes.specs.declared.reach.Reach.TheVariants as reaches
 use Rattle.watch_causes.specs.declared.reason.Reason.TheVariants.{NoFlush, OtherHarts, OtherSpaces, NotDone}
 use Rattle.watch_causes.specs.WorkedCauses.{counts as counts_of_cause}
 use Rattle.watch_report.specs.declared.warning.Trigger.TheVariants.{GivenBack, GivenOut, ClaimedSince, UsedAt}
@@ -61,13 +62,13 @@ other_cause_begins =
 
 abbrev pub total : Type 0
 total =
-    Prints (total_object (codes "boot.watch") 15 (numbered 1 (tally_of (users Reuse NoFlush) 3 (counts_of_cause 4 5 6 7))))
+    Prints (total_object (codes "boot.watch") 15 (numbered 1 reaches.Used (tally_of (users Reuse NoFlush) 3 (counts_of_cause 4 5 6 7))))
     (codes "{\"type\":\"total\",\"file\":\"boot.watch\",\"line\":15,\"cause\":1,\"kernel\":false,\"first\":\"reuse\",\"reason\":\"no-flush\","
     ++ codes "\"findings\":3,\"free\":4,\"reuse\":5,\"claim\":6,\"use\":7}")
 
 abbrev pub other_total : Type 0
 other_total =
-    Prints (total_object (codes "-") 2 (numbered 40 (tally_of (kernels Used OtherSpaces) 1 (counts_of_cause 0 0 0 1))))
+    Prints (total_object (codes "-") 2 (numbered 40 reaches.NotReached (tally_of (kernels Used OtherSpaces) 1 (counts_of_cause 0 0 0 1))))
     (codes "{\"type\":\"total\",\"file\":\"-\",\"line\":2,\"cause\":40,\"kernel\":true,\"first\":\"use\",\"reason\":\"other-asid\","
     ++ codes "\"findings\":1,\"free\":0,\"reuse\":0,\"claim\":0,\"use\":1}")
 

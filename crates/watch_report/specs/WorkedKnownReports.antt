@@ -33,7 +33,16 @@ Tells known taken some = has_verdict (told_of_taken (about Verdicts known) Sv39 
 -- an entry on line 2 with no test but the owner's
 abbrev pub any_of : Bool → KnownEntry
 any_of global =
-    record { line = 2; global = global; first = None; reason = None; range = None; note = [] }
+    record {
+      line = 2;
+      global = global;
+      first = None;
+      reason = None;
+      reach = None;
+      among = λ f. true;
+      range = None;
+      note = [];
+    }
 
 abbrev pub begun_by : Verdict → KnownEntry
 begun_by first = record (any_of false) { first = Some first }
@@ -58,6 +67,7 @@ other_cause =
     Says Causes of_kernel given_both
     (free_line ++ codes "  cause 1: user pages, first free: no flush of the page has begun since\n")
     (codes "a.trace:6: cause 1: user pages, first free: no flush of the page has begun since; 1 finding: free 1\n"
+    ++ codes "  stale by unmap: 1 finding, 1 page of 1 space, hart 1; not reached 1\n"
     ++ codes "b.list:2: by design: 1 finding\n3 records, 1 verdict: free 1; 1 finding by design\n")
 
 abbrev pub other_count : Type 0
@@ -104,6 +114,7 @@ cause_of_use =
     Says Causes (begun_by Free ∷ []) given
     (use_line ++ codes "  cause 1: user pages, first use: no flush of the page has begun since\n")
     (codes "a.trace:7: cause 1: user pages, first use: no flush of the page has begun since; 1 finding: use 1\n"
+    ++ codes "  stale by unmap: 1 finding, 1 page of 1 space, hart 1; used 1\n"
     ++ codes "b.list:2: by design: 1 finding\n3 records, 1 verdict: use 1; 1 finding by design\n")
 
 abbrev pub count_of_use : Type 0

@@ -2,6 +2,8 @@
 use Rattle.std.specs.Prelude.{ℕ, Bool, true, false, ◌≡◌, codes, List, [], ◌∷◌, ◌++◌, Some, None, Ok, Err}
 use Rattle.watch.specs.declared.trace.Verdict.{Verdict}
 use Rattle.watch.specs.declared.trace.Verdict.TheVariants.{Free, Reuse, Claimed, Used}
+use Rattle.watch_causes.specs.declared.reach.Reach.{Reach}
+use Rattle.watch_causes.specs.declared.reach.Reach.TheVariants.{Used as UsedReach, Reachable, NotReached}
 use Rattle.watch_causes.specs.declared.reason.Reason.{Reason}
 use Rattle.watch_causes.specs.declared.reason.Reason.TheVariants.{NoFlush, NoFence, OtherHarts, OtherSpaces, OtherPages, NotDone}
 use Rattle.watch_causes.specs.KnownFindings.{KnownEntry}
@@ -21,7 +23,16 @@ IsRefused text line reason = known_in_text text ≡ Err (fault_at line reason)
 -- an entry on a line without a test but the owner's
 abbrev pub any_of : ℕ → Bool → KnownEntry
 any_of line global =
-    record { line = line; global = global; first = None; reason = None; range = None; note = [] }
+    record {
+      line = line;
+      global = global;
+      first = None;
+      reason = None;
+      reach = None;
+      among = λ f. true;
+      range = None;
+      note = [];
+    }
 
 abbrev pub begun_by : Verdict → KnownEntry
 begun_by first = record (any_of 1 false) { first = Some first }
@@ -99,6 +110,21 @@ abbrev pub note_of_any_bytes : Type 0
 note_of_any_bytes =
     Reads (codes "user - - @" ++ 9 ∷ 0xC3 ∷ 0xA9 ∷ []) (record (any_of 1 false) { note = 9 ∷ 0xC3 ∷ 0xA9 ∷ [] } ∷ [])
 
+-- where the reach of no finding is known, none passes
+abbrev pub of_reach : Reach → KnownEntry
+of_reach reach = record (any_of 1 false) { reach = Some reach; among = λ f. false }
+
+abbrev pub used_alone : Type 0
+used_alone = Reads (codes "user - - used") (of_reach UsedReach ∷ [])
+
+abbrev pub reachable_alone : Type 0
+reachable_alone = Reads (codes "user - - reachable") (of_reach Reachable ∷ [])
+
+abbrev pub reach_before_addresses : Type 0
+reach_before_addresses =
+    Reads (codes "user - - not-reached 1000 20 @x")
+    (record (of_reach NotReached) { range = Some (range_at 0x1000 0x20); note = codes "x" } ∷ [])
+
 abbrev pub with_all : Type 0
 with_all =
     Reads (codes "kernel free no-flush 1000 20 @vfree")
@@ -107,11 +133,22 @@ with_all =
       global = true;
       first = Some Free;
       reason = Some NoFlush;
+      reach = None;
+      among = λ f. true;
       range = Some (range_at 0x1000 0x20);
       note = codes "vfree";
     } ∷ [])
 
 -- ---- faults
+
+abbrev pub other_reach : Type 0
+other_reach = IsRefused (codes "user - - unreached") 1 NoAddress
+
+abbrev pub two_reaches : Type 0
+two_reaches = IsRefused (codes "user - - used reachable") 1 NoAddress
+
+abbrev pub reach_behind_addresses : Type 0
+reach_behind_addresses = IsRefused (codes "user - - 1000 20 used") 1 Excess
 
 abbrev pub other_owner : Type 0
 other_owner = IsRefused (codes "User - -") 1 NoOwner
@@ -218,10 +255,10 @@ told_reason =
     (codes "7: no reason behind the verdict: no-flush, no-fence, other-hart, other-asid, other-page or not-done, or - for any")
 
 abbrev pub told_address : Type 0
-told_address = IsTold 8 NoAddress (codes "8: START is no hexadecimal number")
+told_address = IsTold 8 NoAddress (codes "8: no START, a hexadecimal number, and no reach: used, reachable or not-reached")
 
 abbrev pub told_size : Type 0
 told_size = IsTold 9 NoSize (codes "9: no SIZE behind START, a hexadecimal number")
 
 abbrev pub told_excess : Type 0
-told_excess = IsTold 10 Excess (codes "10: a word too many: OWNER FIRST REASON [START SIZE] [@NOTE]")
+told_excess = IsTold 10 Excess (codes "10: a word too many: OWNER FIRST REASON [REACH] [START SIZE] [@NOTE]")

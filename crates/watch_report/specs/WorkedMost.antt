@@ -66,6 +66,7 @@ kernel_block =
 abbrev pub kernel_total : List ℕ
 kernel_total =
     codes "a.trace:6: cause 1: kernel pages, first free: no flush of the page has begun since; 1 finding: free 1\n"
+    ++ codes "  stale by unmap: 1 finding, 1 page, hart 1; not reached 1\n"
 
 abbrev pub user_block : List ℕ
 user_block =
@@ -74,6 +75,7 @@ user_block =
 abbrev pub user_total : List ℕ
 user_total =
     codes "a.trace:6: cause 2: user pages, first free: no flush of the page has begun since; 1 finding: free 1\n"
+    ++ codes "  stale by unmap: 1 finding, 1 page of 1 space, hart 1; not reached 1\n"
 
 -- the one that began first, though it comes last at the end
 abbrev pub one_of_two_causes : Type 0
@@ -110,6 +112,24 @@ abbrev pub objects_of_verdicts : Type 0
 objects_of_verdicts =
     Says (about Verdicts Json None) given_both (kernel_object ++ user_object) last_object
 
+-- the findings, in the order in which they began
+abbrev pub objects_of_findings : List ℕ
+objects_of_findings =
+    codes "{\"type\":\"finding\",\"file\":\"a.trace\",\"line\":6,\"cause\":1,\"kernel\":true,\"hart\":1,"
+    ++ codes "\"page\":\"1000\",\"size\":\"1000\",\"frame\":\"100\",\"flags\":\"rw-ug\",\"asid\":null,\"root\":null,"
+    ++ codes "\"stale_since\":4,\"stale_by\":\"unmap\",\"reach\":\"not-reached\"}\n"
+    ++ codes "{\"type\":\"finding\",\"file\":\"a.trace\",\"line\":6,\"cause\":2,\"kernel\":false,\"hart\":1,"
+    ++ codes "\"page\":\"1000\",\"size\":\"1000\",\"frame\":\"100\",\"flags\":\"rw-u-\",\"asid\":\"1\",\"root\":\"80000\","
+    ++ codes "\"stale_since\":4,\"stale_by\":\"unmap\",\"reach\":\"not-reached\"}\n"
+
+-- each cause, and its notes behind it
+abbrev pub objects_of_totals : List ℕ
+objects_of_totals =
+    codes "{\"type\":\"total\",\"file\":\"a.trace\",\"line\":6,\"cause\":2,\"kernel\":false,\"first\":\"free\",\"reason\":\"no-flush\",\"findings\":1,\"free\":1,\"reuse\":0,\"claim\":0,\"use\":0}\n"
+    ++ codes "{\"type\":\"note\",\"file\":\"a.trace\",\"cause\":2,\"note\":\"unmap\",\"findings\":1,\"pages\":1,\"spaces\":1,\"harts\":[1],\"asked\":[],\"used\":0,\"reachable\":0,\"not_reached\":1}\n"
+    ++ codes "{\"type\":\"total\",\"file\":\"a.trace\",\"line\":6,\"cause\":1,\"kernel\":true,\"first\":\"free\",\"reason\":\"no-flush\",\"findings\":1,\"free\":1,\"reuse\":0,\"claim\":0,\"use\":0}\n"
+    ++ codes "{\"type\":\"note\",\"file\":\"a.trace\",\"cause\":1,\"note\":\"unmap\",\"findings\":1,\"pages\":1,\"spaces\":null,\"harts\":[1],\"asked\":[],\"used\":0,\"reachable\":0,\"not_reached\":1}\n"
+
 abbrev pub objects_of_causes : Type 0
 objects_of_causes =
     Says (about Causes Json None) given_both
@@ -117,9 +137,7 @@ objects_of_causes =
     ++ codes "{\"type\":\"cause\",\"file\":\"a.trace\",\"line\":6,\"cause\":1,\"kernel\":true,\"first\":\"free\",\"reason\":\"no-flush\"}\n"
     ++ user_object
     ++ codes "{\"type\":\"cause\",\"file\":\"a.trace\",\"line\":6,\"cause\":2,\"kernel\":false,\"first\":\"free\",\"reason\":\"no-flush\"}\n")
-    (codes "{\"type\":\"total\",\"file\":\"a.trace\",\"line\":6,\"cause\":2,\"kernel\":false,\"first\":\"free\",\"reason\":\"no-flush\",\"findings\":1,\"free\":1,\"reuse\":0,\"claim\":0,\"use\":0}\n"
-    ++ codes "{\"type\":\"total\",\"file\":\"a.trace\",\"line\":6,\"cause\":1,\"kernel\":true,\"first\":\"free\",\"reason\":\"no-flush\",\"findings\":1,\"free\":1,\"reuse\":0,\"claim\":0,\"use\":0}\n"
-    ++ last_object)
+    (objects_of_findings ++ objects_of_totals ++ last_object)
 
 abbrev pub object_of_counts : Type 0
 object_of_counts = Says (about Counts Json None) given_both [] last_object

@@ -203,10 +203,12 @@ abbrev pub block_of_cause : List ℕ
 block_of_cause =
     free_line ++ codes "  cause 1: user pages, first free: no flush of the page has begun since\n"
 
+-- and below its line at the end the note of the store
 abbrev pub total_of_cause : List ℕ
 total_of_cause =
     codes "a.trace:6: cause 1: user pages, first free: no flush of the page has begun since; "
     ++ codes "1 finding: free 1, use 1\n"
+    ++ codes "  stale by unmap: 1 finding, 1 page of 1 space, hart 1; used 1\n"
 
 abbrev pub lines_of_cause : Type 0
 lines_of_cause = Says Causes given block_of_cause (total_of_cause ++ last_line)
@@ -218,7 +220,9 @@ lines_of_causes =
     (kernel_line ++ codes "  cause 1: kernel pages, first free: no flush of the page has begun since\n"
     ++ free_line ++ codes "  cause 2: user pages, first free: no flush of the page has begun since\n")
     (codes "a.trace:6: cause 2: user pages, first free: no flush of the page has begun since; 1 finding: free 1\n"
+    ++ codes "  stale by unmap: 1 finding, 1 page of 1 space, hart 1; not reached 1\n"
     ++ codes "a.trace:6: cause 1: kernel pages, first free: no flush of the page has begun since; 1 finding: free 1\n"
+    ++ codes "  stale by unmap: 1 finding, 1 page, hart 1; not reached 1\n"
     ++ codes "3 records, 2 verdicts: free 1, kernel-free 1\n")
 
 abbrev pub counts_alone : Type 0

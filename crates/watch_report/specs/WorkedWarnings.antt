@@ -1,5 +1,5 @@
 -- Worked lines of verdicts and of counts: what was worked out by hand from the form of the line.
-use Rattle.std.specs.Prelude.{◌≡◌, ℕ, true, false, codes, [], Some, None}
+use Rattle.std.specs.Prelude.{◌≡◌, ℕ, true, false, codes, [], ◌∷◌, Some, None}
 use Rattle.pte.specs.declared.address.PageSize.{PageSize}
 use Rattle.pte.specs.declared.address.PageSize.TheVariants.{Kib4, Mib2}
 use Rattle.pte.specs.Address.{Span}
@@ -58,6 +58,13 @@ abbrev pub given_out : Type 0
 given_out =
     warning_line (codes "-") (warning_of 20 user_page (GivenOut (frames_at 0xFF 10))) [] []
     ≡ codes "-:20: reuse hart 11 may hold page 1000+1000 -> 100 rw-u- asid a root 80000, stale since line 6; frames ff+a given out\n"
+
+-- notes with bytes that a terminal may take for commands
+abbrev pub other_bytes : Type 0
+other_bytes =
+    warning_line (codes "-") (warning_of 20 user_page (GivenOut (frames_at 0xFF 10)))
+    (27 ∷ 91 ∷ 0xC3 ∷ 9 ∷ []) (127 ∷ 32 ∷ 126 ∷ [])
+    ≡ codes "-:20: reuse hart 11 may hold page 1000+1000 -> 100 rw-u- asid a root 80000, stale since line 6 by \\x1b[\\xc3\\x09; frames ff+a given out by \\x7f ~\n"
 
 -- a page that is global by a pointer above its leaf, which has no G
 abbrev pub below_a_global_pointer : Type 0

@@ -1,18 +1,21 @@
 //! The lines of causes.
-ghost use Rattle.std.specs.Prelude.{◌≡◌, ◌++◌, IfOk, OnOk, not, position, true};
-ghost use Rattle.watch_report.specs.CauseLines.{block_text, by_test, cause_part, cause_reason_text, cause_text, comes_before, findings_part, has_reuse, ordered, owner_text, placed, spaces_text, tally_counts, total_line};
+ghost use Rattle.std.specs.Prelude.{◌≡◌, ◌++◌, IfOk, OnOk, nat_lt, not, position, true};
+ghost use Rattle.watch_report.specs.CauseLines.{block_text, by_test, cause_part, cause_reason_text, cause_text, comes_before, findings_part, has_reachable, has_reuse, has_used, numbered_by, ordered, owner_text, placed, spaces_text, tally_counts, total_line};
 ghost use Rattle.watch_report.specs.Warnings.{counted_text, verdict_counts_text};
 
 use crate::counts::{count_of, push_counts, word_of};
+use crate::found::{Found, best_reach, is_reachable, is_used, of_cause};
 use crate::push::{push, push_decimal};
 use crate::warning::{Warning, push_place, push_warning, verdict_word};
 use std::alloc::{AllocError, Global};
-use watch_causes::{Cause, Reason, Tally, Verdicts};
+use watch_causes::{Cause, Reach, Reason, Tally, Verdicts};
 
 /// What is counted of a cause, with its number: 1 for the cause that began first.
 #[derive(Clone, Copy, PartialEq, Eq, Debug)]
 pub struct NumberedTally {
     pub number: u64,
+    /// The best reach of its findings.
+    pub reach: Reach,
     pub tally: Tally,
 }
 
@@ -142,14 +145,24 @@ fn has_reuse(one: &NumberedTally) -> bool
     one.tally.verdicts.reuse > 0
 }
 
+/// Of what is alike up to there: the best reach first, then more findings.
+fn by_reach(a: &NumberedTally, b: &NumberedTally) -> bool
+    ensures { result ≡ by_test (has_used a.now) (has_used b.now)
+        (by_test (has_reachable a.now) (has_reachable b.now)
+        (nat_lt b.now.tally.findings a.now.tally.findings)) }
+{
+    let otherwise = by_test(
+        is_reachable(a.reach),
+        is_reachable(b.reach),
+        a.tally.findings > b.tally.findings,
+    );
+    by_test(is_used(a.reach), is_used(b.reach), otherwise)
+}
+
 fn comes_before(a: &NumberedTally, b: &NumberedTally) -> bool
     ensures { result ≡ comes_before a.now b.now }
 {
-    let otherwise = by_test(
-        has_reuse(a),
-        has_reuse(b),
-        a.tally.findings > b.tally.findings,
-    );
+    let otherwise = by_test(has_reuse(a), has_reuse(b), by_reach(a, b));
     by_test(!a.tally.cause.global, !b.tally.cause.global, otherwise)
 }
 
@@ -170,23 +183,39 @@ fn place(ones: &mut Vec<NumberedTally>, one: NumberedTally) -> Result<(), AllocE
     }
 }
 
+/// With its number, and the best reach of the findings that have the number.
+fn numbered(
+    alloc: Global,
+    founds: &[Found],
+    number: u64,
+    tally: Tally,
+) -> Result<NumberedTally, AllocError>
+    ensures { IfOk result (λ one. one ≡ numbered_by founds.now number tally) }
+{
+    let own = of_cause(alloc, number, founds)?;
+    Ok(NumberedTally {
+        number,
+        reach: best_reach(own.as_slice()),
+        tally,
+    })
+}
+
 /// The tallies, which come in the order in which their causes began, each with its number, in the order
 /// of the end: users' pages before the kernel's, then causes with a `reuse` before others, then those
-/// with more findings before those with fewer, and else as they came.
-pub fn in_order(alloc: Global, tallies: &[Tally]) -> Result<Vec<NumberedTally>, AllocError>
-    ensures { IfOk result (λ ones. ones.items ≡ ordered tallies.now) }
+/// with the best reach of these findings, then those with more findings before those with fewer, and
+/// else as they came.
+pub fn in_order(
+    alloc: Global,
+    founds: &[Found],
+    tallies: &[Tally],
+) -> Result<Vec<NumberedTally>, AllocError>
+    ensures { IfOk result (λ ones. ones.items ≡ ordered founds.now tallies.now) }
 {
     let mut ones = Vec::new(alloc);
     let mut number = tallies.len();
     'last: while number > 0 {
         let tally = tallies[number - 1];
-        place(
-            &mut ones,
-            NumberedTally {
-                number: number as u64,
-                tally,
-            },
-        )?;
+        place(&mut ones, numbered(alloc, founds, number as u64, tally)?)?;
         number -= 1;
     }
     Ok(ones)

@@ -29,7 +29,7 @@ pub fn count_of(name: &'static [u8], number: u64) -> Count
     Count { name, number }
 }
 
-fn push_comma(text: &mut Vec<u8>, is_first: bool) -> Result<(), AllocError>
+pub(crate) fn push_comma(text: &mut Vec<u8>, is_first: bool) -> Result<(), AllocError>
     ensures ok { OnOk result (text.new.items ≡ text.old.items ++ comma_text is_first) }
 {
     if is_first { Ok(()) } else { push(text, b", ") }

@@ -199,6 +199,20 @@ fn push_note(text: &mut Vec<u8>, by: &[u8]) -> Result<(), AllocError>
     push(text, by)
 }
 
+/// Adds a record, with its note, without the end of its line.
+pub(crate) fn push_noted(
+    text: &mut Vec<u8>,
+    scheme: Scheme,
+    record: Record,
+    by: &[u8],
+) -> Result<(), AllocError>
+    ensures ok { OnOk result (text.new.items ≡ text.old.items ++ record_text scheme «record»
+        ++ note_text by.now) }
+{
+    push_fields(text, scheme, record)?;
+    push_note(text, by)
+}
+
 /// Adds the line of a record, with a note, empty for none, that has no end of a line in it.
 /// `AllocError`: there was no room; the part of the line that had room stays.
 pub fn push_record(
@@ -210,7 +224,6 @@ pub fn push_record(
     ensures ok { OnOk result (text.new.items ≡ text.old.items ++ record_text scheme «record»
         ++ note_text by.now ++ codes "\n") }
 {
-    push_fields(text, scheme, record)?;
-    push_note(text, by)?;
+    push_noted(text, scheme, record, by)?;
     push(text, b"\n")
 }

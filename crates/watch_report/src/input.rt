@@ -26,7 +26,7 @@ fn take_feed(line: &mut Vec<u8>) -> bool
     true
 }
 
-fn read_fault(error: &io::Error) -> ReadingFault
+pub(crate) fn read_fault(error: &io::Error) -> ReadingFault
     ensures { IsReadFault result }
 {
     if error.kind() == io::ErrorKind::OutOfMemory {

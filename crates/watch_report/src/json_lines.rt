@@ -13,7 +13,7 @@ use watch::Frames;
 use watch_causes::{Cause, Verdicts};
 
 /// Adds the type of the object, and the file that it is of.
-fn add_file(object: &mut Object, type_word: &[u8], file: &[u8]) -> Result<(), AllocError>
+pub(crate) fn add_file(object: &mut Object, type_word: &[u8], file: &[u8]) -> Result<(), AllocError>
     ensures ok { OnOk result (object.new ≡ object.old ++ file_fields type_word.now file.now) }
 {
     object.text("type", type_word)?;
@@ -21,7 +21,7 @@ fn add_file(object: &mut Object, type_word: &[u8], file: &[u8]) -> Result<(), Al
 }
 
 /// And the line of the file.
-fn add_place(
+pub(crate) fn add_place(
     object: &mut Object,
     type_word: &[u8],
     file: &[u8],
@@ -34,7 +34,7 @@ fn add_place(
 }
 
 /// Adds the note of a record, if it has one.
-fn add_note(object: &mut Object, name: &str, by: &[u8]) -> Result<(), AllocError>
+pub(crate) fn add_note(object: &mut Object, name: &str, by: &[u8]) -> Result<(), AllocError>
     ensures ok { OnOk result (object.new ≡ object.old ++ field name.now (note_value by.now)) }
 {
     if by.is_empty() {
@@ -45,7 +45,12 @@ fn add_note(object: &mut Object, name: &str, by: &[u8]) -> Result<(), AllocError
 }
 
 /// Adds an ASID or the PPN of a root table.
-fn add_scoped(object: &mut Object, name: &str, global: bool, n: u64) -> Result<(), AllocError>
+pub(crate) fn add_scoped(
+    object: &mut Object,
+    name: &str,
+    global: bool,
+    n: u64,
+) -> Result<(), AllocError>
     ensures ok { OnOk result (object.new ≡ object.old ++ field name.now (scoped_value global n)) }
 {
     if global {
@@ -68,7 +73,7 @@ fn add_verdict(object: &mut Object, file: &[u8], warning: &Warning) -> Result<()
 
 /// Adds the page, the PPN, the flags and the ASID of an entry.
 #[tactic(auto, unfolding(crate::specs::JsonObjects::entry_fields))]
-fn add_entry(alloc: Global, object: &mut Object, entry: &Entry) -> Result<(), AllocError>
+pub(crate) fn add_entry(alloc: Global, object: &mut Object, entry: &Entry) -> Result<(), AllocError>
     ensures ok { OnOk result (object.new ≡ object.old ++ entry_fields entry.now) }
 {
     let mut letters = Vec::new(alloc);

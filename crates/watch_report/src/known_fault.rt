@@ -23,7 +23,7 @@ pub enum KnownReason {
     NoVerdict,
     /// The third word is no reason, and not `-`, or is missing.
     NoReason,
-    /// START is no hexadecimal number.
+    /// The word behind the reason or the reach is no reach and no hexadecimal number.
     NoAddress,
     /// SIZE is no hexadecimal number, or is missing.
     NoSize,
@@ -32,7 +32,7 @@ pub enum KnownReason {
 }
 
 /// What is wrong with a line of the list. `Display` is the number and the text of the reason, as
-/// `3: START is no hexadecimal number`.
+/// `3: no SIZE behind START, a hexadecimal number`.
 #[derive(Clone, Copy, PartialEq, Eq, Debug)]
 pub struct KnownFault {
     /// The number of the line, from 1 on.
@@ -60,9 +60,12 @@ const NO_VERDICT: &str =
 const NO_REASON: &str = "no reason behind the verdict: no-flush, no-fence, other-hart, \
     other-asid, other-page or not-done, or - for any";
 
+const NO_ADDRESS: &str =
+    "no START, a hexadecimal number, and no reach: used, reachable or not-reached";
+
 const NO_SIZE: &str = "no SIZE behind START, a hexadecimal number";
 
-const EXCESS: &str = "a word too many: OWNER FIRST REASON [START SIZE] [@NOTE]";
+const EXCESS: &str = "a word too many: OWNER FIRST REASON [REACH] [START SIZE] [@NOTE]";
 
 impl fmt::Display for KnownReason {
     ghost use Rattle.std.specs.Prelude.{Some};
@@ -82,7 +85,7 @@ impl fmt::Display for KnownReason {
             KnownReason::NoOwner => f.write_str(NO_OWNER),
             KnownReason::NoVerdict => f.write_str(NO_VERDICT),
             KnownReason::NoReason => f.write_str(NO_REASON),
-            KnownReason::NoAddress => f.write_str("START is no hexadecimal number"),
+            KnownReason::NoAddress => f.write_str(NO_ADDRESS),
             KnownReason::NoSize => f.write_str(NO_SIZE),
             KnownReason::Excess => f.write_str(EXCESS),
         }

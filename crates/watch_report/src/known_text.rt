@@ -1,7 +1,7 @@
 //! The text of a list of what is known to be by design.
 ghost use Rattle.std.specs.Prelude.{◌≡◌, ◌++◌, ◌+◌, ◌∷◌, IfErr, IfOk, IfSome, MatchResult, Err, Ok, Some, find, length, map, not};
 ghost use Rattle.watch_causes.specs.KnownFindings.{known_entry};
-ghost use Rattle.watch_report.specs.KnownTexts.{FailsBy, is_plain, is_silent, known_in_text, line_entries, line_tests, lines_left, listed, other_byte};
+ghost use Rattle.watch_report.specs.KnownTexts.{FailsBy, is_silent, known_in_text, line_entries, line_tests, lines_left, listed, other_byte};
 ghost use Rattle.watch_report.specs.TraceLines.{note_of};
 ghost use Rattle.watch_report.specs.TraceText.{lines_of};
 
@@ -9,15 +9,9 @@ use crate::bytes::first_of;
 use crate::known_fault::{KnownError, KnownFault, KnownReason};
 use crate::known_words::{KnownTests, has_space_too_many, read_tests};
 use crate::line::{note_start, split_note};
-use crate::word_faults::is_printable;
+use crate::shown::is_plain;
 use std::alloc::Global;
 use watch_causes::Known;
-
-fn is_plain(byte: u8) -> bool
-    ensures { result ≡ is_plain byte }
-{
-    byte == b' ' || is_printable(byte)
-}
 
 /// The first byte before the note that no word has.
 fn other_byte(text: &[u8]) -> Option<u8>
@@ -68,6 +62,7 @@ fn read_entry(alloc: Global, line: u64, text: &[u8]) -> Result<Option<Known>, Kn
             global: tests.global,
             first: tests.first,
             reason: tests.reason,
+            reach: tests.reach,
             range: tests.range,
             note: note.to_vec(alloc)?,
         })),
@@ -76,7 +71,7 @@ fn read_entry(alloc: Global, line: u64, text: &[u8]) -> Result<Option<Known>, Kn
 }
 
 /// The first line of a text, and what stands after its line feed, if there is one.
-fn first_line(text: &[u8]) -> (&[u8], Option<&[u8]>)
+pub(crate) fn first_line(text: &[u8]) -> (&[u8], Option<&[u8]>)
     ensures lines { lines_of text.now ≡ result.0.now ∷ lines_left result.1 }
     ensures rest { IfSome result.1 (λ rest. length result.0.now + 1 + length rest.now
         ≡ length text.now) }
@@ -94,12 +89,13 @@ fn first_line(text: &[u8]) -> (&[u8], Option<&[u8]>)
 /// ` @NOTE` or ` #NOTE`:
 ///
 /// ```text
-/// OWNER FIRST REASON [START SIZE] [@NOTE]
+/// OWNER FIRST REASON [REACH] [START SIZE] [@NOTE]
 /// ```
 ///
 /// OWNER is `user` or `kernel`. FIRST, the first verdict of a finding, is `free`, `reuse`, `claim` or
 /// `use`, and REASON, the reason of that, `no-flush`, `no-fence`, `other-hart`, `other-asid`,
-/// `other-page` or `not-done`; `-` is any. One of SIZE addresses from START on lies in the page: both
+/// `other-page` or `not-done`; `-` is any. REACH, that of the finding on the whole trace, is `used`,
+/// `reachable` or `not-reached`. One of SIZE addresses from START on lies in the page: both
 /// are hexadecimal, of 1 to 16 digits. With NOTE the note of the record begins that made the page stale.
 ///
 /// The entries come in the order of their lines, which have numbers from 1 on; the last line may lack

@@ -3,16 +3,16 @@ ghost use Rattle.std.specs.Prelude.{◌≡◌, None, Some, MatchOption, false, n
 ghost use Rattle.std.specs.List.{list_any};
 ghost use Rattle.watch_report.specs.Fields.{fields_of, hexadecimal_field};
 ghost use Rattle.watch_report.specs.Filters.{verdict_in};
-ghost use Rattle.watch_report.specs.KnownTexts.{has_space_too_many, if_last, next, or_any, owner_in, range_in, reason_in, tests_in, words_of};
+ghost use Rattle.watch_report.specs.KnownTexts.{has_space_too_many, if_last, next, next_reach, or_any, owner_in, range_in, reach_in, reason_in, tests_in, words_of};
 
 use crate::fields::is_separator;
 use crate::filter::user_verdict;
 use crate::find_fault::first_word;
 use crate::known_fault::KnownReason;
 use crate::numbers::hexadecimal;
-use crate::reason_word::reason_word;
+use crate::reason_word::{reach_word, reason_word};
 use watch::{AddressRange, Verdict};
-use watch_causes::Reason;
+use watch_causes::{Reach, Reason};
 
 /// What the words of an entry say.
 #[derive(Clone, Copy)]
@@ -20,6 +20,7 @@ pub struct KnownTests {
     pub global: bool,
     pub first: Option<Verdict>,
     pub reason: Option<Reason>,
+    pub reach: Option<Reach>,
     pub range: Option<AddressRange>,
 }
 
@@ -52,6 +53,21 @@ fn reason(word: &[u8]) -> Option<Reason>
         Some(Reason::OtherPages)
     } else if word == reason_word(Reason::NotDone) {
         Some(Reason::NotDone)
+    } else {
+        None
+    }
+}
+
+/// The reach that has this word.
+fn reach(word: &[u8]) -> Option<Reach>
+    ensures { result ≡ reach_in word.now }
+{
+    if word == reach_word(Reach::Used) {
+        Some(Reach::Used)
+    } else if word == reach_word(Reach::Reachable) {
+        Some(Reach::Reachable)
+    } else if word == reach_word(Reach::NotReached) {
+        Some(Reach::NotReached)
     } else {
         None
     }
@@ -110,7 +126,21 @@ fn next_reason(words: Option<&[u8]>) -> Option<(Option<Reason>, Option<&[u8]>)>
     Some((reason, rest))
 }
 
-/// The same of a number.
+/// The reach that the first of the words names, if it names one, and the words behind it.
+fn next_reach(words: Option<&[u8]>) -> (Option<Reach>, Option<&[u8]>)
+    ensures { (result.0, words_of result.1) ≡ next_reach (words_of words.entry) }
+{
+    let Some(text) = words else {
+        return (None, None);
+    };
+    let (word, rest) = first_word(text);
+    match reach(word) {
+        None => (None, words),
+        Some(reach) => (Some(reach), rest),
+    }
+}
+
+/// The number that the first of the words names, and the words behind it.
 fn next_number(words: Option<&[u8]>) -> Option<(u64, Option<&[u8]>)>
     ensures { MatchOption result (next hexadecimal_field (words_of words.entry) ≡ None)
         (λ it. next hexadecimal_field (words_of words.entry) ≡ Some (it.0, words_of it.1)) }
@@ -161,11 +191,13 @@ pub(crate) fn read_tests(text: &[u8]) -> Result<KnownTests, KnownReason>
     let Some((reason, words)) = next_reason(words) else {
         return Err(KnownReason::NoReason);
     };
+    let (reach, words) = next_reach(words);
     let range = range(words)?;
     Ok(KnownTests {
         global,
         first,
         reason,
+        reach,
         range,
     })
 }

@@ -10,6 +10,7 @@ ghost use Rattle.watch_engine.specs.declared.warning.Warning.{Warning};
 ghost use Rattle.watch_engine.specs.Warnings.{AreWarnings};
 ghost use Rattle.watch_report.specs.declared.header.Header.{Header};
 ghost use Rattle.watch_report.specs.declared.warning.Trigger.{Trigger};
+ghost use Rattle.watch_report.specs.declared.found.Found.{Found};
 ghost use Rattle.watch_report.specs.CauseLines.{AreInOrder, comes_before, numbered_from, ordered};
 ghost use Rattle.watch_report.specs.ReadBack.{HasLine};
 ghost use Rattle.watch_report.specs.RecordLines.{note_text, record_text};
@@ -58,9 +59,10 @@ pub fn each_warning_is_printed()
 /// At the end stands each cause that began, once, with its number. None comes before one that stands
 /// in front of it, and those of which none comes before another stand as they began.
 pub fn causes_stand_in_order()
-    ensures each { (tallies : List Tally)
-        → IsPermutation (numbered_from 1 tallies) (ordered tallies) }
-    ensures order { (tallies : List Tally) → AreInOrder (ordered tallies) }
-    ensures alike { (tallies : List Tally)
-        → IsStableBy comes_before (numbered_from 1 tallies) (ordered tallies) }
+    ensures each { (founds : List Found) (tallies : List Tally)
+        → IsPermutation (numbered_from founds 1 tallies) (ordered founds tallies) }
+    ensures order { (founds : List Found) (tallies : List Tally)
+        → AreInOrder (ordered founds tallies) }
+    ensures alike { (founds : List Found) (tallies : List Tally)
+        → IsStableBy comes_before (numbered_from founds 1 tallies) (ordered founds tallies) }
 {}

@@ -7,6 +7,7 @@
 //! where they are told, the causes.
 //!
 //! `explain_trace` writes the story of one verdict: a trace of few records that alone gives it.
+//! `tell_story` answers it, with what a picture of it shows.
 #![tactic(auto)]
 
 mod blocks;
@@ -23,9 +24,11 @@ mod filter;
 mod filter_laws;
 mod find_fault;
 mod forms;
+mod found;
 mod header;
 mod input;
 mod json_lines;
+mod judging;
 mod known_end;
 mod known_fault;
 mod known_laws;
@@ -39,6 +42,11 @@ mod line_fault;
 mod line_form;
 mod lines;
 mod newest;
+mod note_group;
+mod note_groups;
+mod note_json;
+mod note_laws;
+mod note_lines;
 mod notes;
 mod numbers;
 mod object;
@@ -54,6 +62,8 @@ mod reason_word;
 mod record;
 mod report;
 mod retry;
+mod shown;
+mod story;
 mod story_laws;
 mod story_text;
 mod telling;
@@ -69,60 +79,109 @@ mod worked_json;
 mod worked_known_reports;
 mod worked_known_texts;
 mod worked_lines;
+mod worked_notes;
 mod worked_reports;
 mod worked_stories;
 
-pub use cause_line::{NumberedTally, in_order, push_block, push_total};
-pub use counts::{VerdictCounts, push_summary};
+pub use cause_line::NumberedTally;
+pub use cause_line::in_order;
+pub use cause_line::push_block;
+pub use cause_line::push_total;
+pub use counts::VerdictCounts;
+pub use counts::push_summary;
 pub use detail::Detail;
 pub use emit::push_record;
 pub use explain::explain_trace;
+pub use explain::tell_story;
+pub use explain::write_told;
 pub use fault::ReportFault;
-pub use filter::{Filter, Kind, read_filter};
-pub use filter_laws::{
-    kind_is_the_word_of_a_line, open_filter_takes_all, told_verdicts_are_those_taken,
-};
-pub use find_fault::{find_header_fault, find_line_fault};
-pub use header::{Header, read_header};
-pub use json_lines::{
-    push_cause_json, push_known_json, push_summary_json, push_total_json, push_verdict_json,
-};
-pub use known_fault::{KnownError, KnownFault, KnownReason};
-pub use known_laws::{nothing_is_known_without_entries, told_verdict_is_due};
+pub use filter::Filter;
+pub use filter::Kind;
+pub use filter::read_filter;
+pub use filter_laws::kind_is_the_word_of_a_line;
+pub use filter_laws::open_filter_takes_all;
+pub use filter_laws::told_verdicts_are_those_taken;
+pub use find_fault::find_header_fault;
+pub use find_fault::find_line_fault;
+pub use found::Found;
+pub use header::Header;
+pub use header::read_header;
+pub use json_lines::push_cause_json;
+pub use json_lines::push_known_json;
+pub use json_lines::push_summary_json;
+pub use json_lines::push_total_json;
+pub use json_lines::push_verdict_json;
+pub use known_fault::KnownError;
+pub use known_fault::KnownFault;
+pub use known_fault::KnownReason;
+pub use known_laws::nothing_is_known_without_entries;
+pub use known_laws::told_verdict_is_due;
 pub use known_list::KnownList;
 pub use known_text::read_known;
-pub use laws::{
-    causes_stand_in_order, each_warning_is_printed, line_has_a_fault_or_a_form,
-    printed_record_is_read, record_stands_on_its_line,
-};
-pub use line::{Line, read_line};
-pub use line_fault::{LineFault, LineReason};
-pub use line_form::{Field, LineForm};
-pub use options::{Form, Options};
+pub use laws::causes_stand_in_order;
+pub use laws::each_warning_is_printed;
+pub use laws::line_has_a_fault_or_a_form;
+pub use laws::printed_record_is_read;
+pub use laws::record_stands_on_its_line;
+pub use line::Line;
+pub use line::read_line;
+pub use line_fault::LineFault;
+pub use line_fault::LineReason;
+pub use line_form::Field;
+pub use line_form::LineForm;
+pub use note_group::NoteGroup;
+pub use note_laws::findings_are_counted_once;
+pub use options::Form;
+pub use options::Options;
 pub use report::report_trace;
-pub use retry::{read_retrying, write_retrying};
+pub use retry::read_retrying;
+pub use retry::write_retrying;
+pub use story::Story;
+pub use story::StoryRow;
 pub use story_laws::story_reads_as_its_records;
-pub use warning::{Trigger, Warning, push_warning};
+pub use warning::Trigger;
+pub use warning::Warning;
+pub use warning::push_warning;
 pub use watch_causes::Known;
-pub use worked_cause_lines::{worked_causes, worked_orders, worked_totals};
-pub use worked_faults::{
-    worked_byte_faults, worked_fault_texts, worked_formed_lines, worked_header_faults,
-    worked_line_faults,
-};
-pub use worked_filters::{
-    refused_words, worked_filtered_causes, worked_filtered_lines, worked_statuses, worked_words,
-};
-pub use worked_json::{
-    each_object_is_on_a_line, worked_cause_objects, worked_firsts, worked_json_reports,
-    worked_last_objects, worked_verdict_objects,
-};
+pub use watch_causes::Role;
+pub use worked_cause_lines::worked_causes;
+pub use worked_cause_lines::worked_orders;
+pub use worked_cause_lines::worked_totals;
+pub use worked_faults::worked_byte_faults;
+pub use worked_faults::worked_fault_texts;
+pub use worked_faults::worked_formed_lines;
+pub use worked_faults::worked_header_faults;
+pub use worked_faults::worked_line_faults;
+pub use worked_filters::refused_words;
+pub use worked_filters::worked_filtered_causes;
+pub use worked_filters::worked_filtered_lines;
+pub use worked_filters::worked_statuses;
+pub use worked_filters::worked_words;
+pub use worked_json::each_object_is_on_a_line;
+pub use worked_json::worked_cause_objects;
+pub use worked_json::worked_firsts;
+pub use worked_json::worked_json_reports;
+pub use worked_json::worked_last_objects;
+pub use worked_json::worked_verdict_objects;
 pub use worked_known_reports::worked_known_findings;
-pub use worked_known_texts::{worked_known_fault_texts, worked_known_faults, worked_known_lists};
-pub use worked_lines::{
-    worked_headers, worked_readings, worked_records, worked_refusals, worked_summaries,
-    worked_warnings,
-};
-pub use worked_reports::{
-    refused_endings, refused_texts, worked_endings, worked_texts, worked_verdict_orders,
-};
-pub use worked_stories::{refused_explanations, worked_explanations, worked_roles, worked_story};
+pub use worked_known_texts::worked_known_fault_texts;
+pub use worked_known_texts::worked_known_faults;
+pub use worked_known_texts::worked_known_lists;
+pub use worked_lines::worked_headers;
+pub use worked_lines::worked_readings;
+pub use worked_lines::worked_records;
+pub use worked_lines::worked_refusals;
+pub use worked_lines::worked_summaries;
+pub use worked_lines::worked_warnings;
+pub use worked_notes::refused_notes;
+pub use worked_notes::worked_note_lines;
+pub use worked_notes::worked_note_objects;
+pub use worked_reports::refused_endings;
+pub use worked_reports::refused_texts;
+pub use worked_reports::worked_endings;
+pub use worked_reports::worked_texts;
+pub use worked_reports::worked_verdict_orders;
+pub use worked_stories::refused_explanations;
+pub use worked_stories::worked_explanations;
+pub use worked_stories::worked_roles;
+pub use worked_stories::worked_story;

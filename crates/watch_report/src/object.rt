@@ -1,6 +1,6 @@
 //! An object of JSON that is being written.
 ghost use Rattle.std.specs.Prelude.{◌≡◌, ◌++◌, ◌∷◌, [], IfOk, OnOk};
-ghost use Rattle.json.specs.Token.{begin_object, boolean, end_object, key, null};
+ghost use Rattle.json.specs.Token.{begin_array, begin_object, boolean, end_array, end_object, key, null};
 ghost use Rattle.watch_report.specs.JsonObjects.{field, hexadecimal_value, json_line, number_value, text_value};
 
 use crate::push::{push, push_hexadecimal};
@@ -99,6 +99,28 @@ impl Object {
         ensures ok { OnOk result (self.new ≡ self.old ++ end_object ∷ []) }
     {
         self.writer.end_object()
+    }
+
+    /// Begins a field with an array.
+    pub(crate) fn begin_numbers(&mut self, name: &str) -> Result<(), AllocError>
+        ensures ok { OnOk result (self.new ≡ self.old ++ key name.now ∷ begin_array ∷ []) }
+    {
+        self.writer.key(name)?;
+        self.writer.begin_array()
+    }
+
+    /// Adds a number to the array.
+    pub(crate) fn item(&mut self, n: u64) -> Result<(), AllocError>
+        ensures ok { OnOk result (self.new ≡ self.old ++ number_value n ∷ []) }
+    {
+        self.writer.u64(n)
+    }
+
+    /// Ends the array.
+    pub(crate) fn end_numbers(&mut self) -> Result<(), AllocError>
+        ensures ok { OnOk result (self.new ≡ self.old ++ end_array ∷ []) }
+    {
+        self.writer.end_array()
     }
 
     /// Ends the object, and adds it as a line.

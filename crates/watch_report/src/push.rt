@@ -10,7 +10,7 @@ const MOST_DIGITS: usize = 16;
 
 /// The hexadecimal digit of a number below 16.
 #[inline(always)]
-fn digit(n: u64) -> u8
+pub(crate) fn digit(n: u64) -> u8
     requires { n < 16 }
     ensures { result ≡ digit_glyph false n }
 {

@@ -1,8 +1,10 @@
 //! A trace that is being read.
-ghost use Rattle.std.specs.Prelude.{◌≡◌, ◌+◌, ◌∷◌, ℕ, List, [], Option, IfErr, IfOk, OnOk, nat_lt, not, map};
+ghost use Rattle.std.specs.Prelude.{◌≡◌, ◌+◌, ◌∷◌, ℕ, List, [], Option, IfErr, IfOk, OnOk, nat_lt, not};
 ghost use Rattle.watch_engine.specs.declared.warning.Warning.{Warning as WarningOf};
 ghost use Rattle.watch_report.specs.declared.options.Options.{Options as OptionsOf};
-ghost use Rattle.watch_causes.specs.KnownFindings.{KnownEntry, known_entry};
+ghost use Rattle.watch_causes.specs.KnownFindings.{KnownEntry};
+ghost use Rattle.watch_causes.specs.KnownReaches.{reach_in};
+ghost use Rattle.watch_causes.specs.KnownSoFar.{entries_by};
 ghost use Rattle.watch_report.specs.KnownLists.{KnownIn, list_of};
 ghost use Rattle.watch_report.specs.declared.reading_fault.ReadingFault.TheVariants.{NoMemory};
 ghost use Rattle.watch_report.specs.Output.{WritesAll};
@@ -30,7 +32,7 @@ use crate::telling::Telling;
 use crate::trigger::trigger_of;
 use std::alloc::Global;
 use std::io::Write;
-use watch_causes::{Known, KnownFindings};
+use watch_causes::{Known, KnownFindings, KnownReaches};
 use watch_engine::Watch;
 use watch_tables::PageTables;
 
@@ -55,14 +57,15 @@ impl Reading {
         alloc: Global,
         options: Options,
         known: Vec<Known>,
+        reaches: KnownReaches,
         header: Header,
     ) -> Result<Reading, ReadingFault>
         ensures header { IfOk result (λ reading. reading.header ≡ header) }
-        ensures seen { (file : List ℕ)
-            → IfOk result (HasSeen options (list_of file (map known_entry known.items)) [] []) }
+        ensures seen { (file : List ℕ) → IfOk result (HasSeen options
+            (list_of file (entries_by (reach_in reaches) known.items)) [] []) }
         ensures err { IfErr result (λ fault. fault ≡ NoMemory) }
     {
-        let known = KnownFindings::new(alloc, header.scheme, known)?;
+        let known = KnownFindings::new(alloc, header.scheme, known, reaches)?;
         Ok(Reading {
             alloc,
             options,
@@ -130,6 +133,7 @@ impl Reading {
     }
 
     /// Takes the next record, and writes what is told of it.
+    #[inline(always)]
     fn take_record<W: Write>(
         &mut self,
         file: &[u8],
@@ -157,6 +161,7 @@ impl Reading {
 
     /// Takes the next line, which has this number. Whether it has a form: of one that has none nothing
     /// is taken.
+    #[inline(always)]
     pub fn take_line<W: Write>(
         &mut self,
         file: &[u8],

@@ -1,17 +1,22 @@
 //! The report of a trace.
-ghost use Rattle.std.specs.Prelude.{ℕ, List, IfSome, ◌≡◌, Ok, None, false, true};
+ghost use Rattle.std.specs.Prelude.{ℕ, List, IfErr, IfOk, IfSome, ◌≡◌, Ok, None, false, is_some, true};
+ghost use Rattle.std.specs.List.{list_any};
 ghost use Rattle.watch_report.specs.Ending.{Ends, EndsBy, IsAtLine};
 ghost use Rattle.watch_report.specs.Fields.{fields_of};
+ghost use Rattle.watch_report.specs.Reading.{IsReadFault};
 ghost use Rattle.watch_report.specs.KnownLists.{known_in};
 ghost use Rattle.watch_report.specs.LineFaults.{fault_of, header_fault};
 ghost use Rattle.watch_report.specs.Reports.{told_of};
+ghost use Rattle.watch_report.specs.TraceReaches.{EndsAs, EndsJudged, known_by};
+ghost use Rattle.watch_causes.specs.KnownReaches.{reach_in};
 ghost use Rattle.watch_report.specs.TraceLines.{header_in};
 ghost use Rattle.watch_report.specs.TraceText.{has_no_form, lines_of};
 
 use crate::fault::ReportFault;
 use crate::find_fault::{find_header_fault, find_line_fault};
 use crate::header::{Header, read_header};
-use crate::input::read_line;
+use crate::input::{read_fault, read_line};
+use crate::judging::reaches_of;
 use crate::known_list::KnownList;
 use crate::options::Options;
 use crate::reading::Reading;
@@ -19,6 +24,7 @@ use crate::reading_fault::ReadingFault;
 use crate::retry::Retrying;
 use std::alloc::Global;
 use std::io::{BufRead, BufReader, Read, Write};
+use watch_causes::{Known, KnownReaches};
 
 /// What is told of a first line that is no header.
 pub(crate) fn first_line_fault(line: &[u8]) -> ReportFault
@@ -73,6 +79,7 @@ fn report_lines<R: BufRead, W: Write>(
     alloc: Global,
     options: Options,
     known: KnownList<'_>,
+    reaches: KnownReaches,
     file: &[u8],
     header: Header,
     input: &mut R,
@@ -80,11 +87,11 @@ fn report_lines<R: BufRead, W: Write>(
     out: &mut W,
 ) -> Result<bool, ReportFault>
     ensures { (text : List ℕ) × IfSome (R.remaining input.old) (λ left. text ≡ left)
-        × EndsBy (told_of options (known_in known.entry) file.now) (Ok header) (lines_of text) result
+        × EndsBy (told_of options (known_by (reach_in reaches) known.entry) file.now) (Ok header) (lines_of text) result
         (W.contents out.old) (W.contents out.new) }
 {
     let list = known.file;
-    let mut reading = Reading::new(alloc, options, known.entries, header)?;
+    let mut reading = Reading::new(alloc, options, known.entries, reaches, header)?;
     for number in 2..u64::MAX {
         let more = read_line(input, line)?;
         let text = line.as_slice();
@@ -106,12 +113,14 @@ fn report_all<R: BufRead, W: Write>(
     alloc: Global,
     options: Options,
     known: KnownList<'_>,
+    reaches: KnownReaches,
     file: &[u8],
     input: &mut R,
     out: &mut W,
 ) -> Result<bool, ReportFault>
     ensures { (text : List ℕ) × IfSome (R.remaining input.old) (λ left. text ≡ left)
-        × Ends (told_of options (known_in known.entry) file.now) text result (W.contents out.old) (W.contents out.new) }
+        × Ends (told_of options (known_by (reach_in reaches) known.entry) file.now) text result
+        (W.contents out.old) (W.contents out.new) }
 {
     let mut line = Vec::new(alloc);
     let more = read_line(input, &mut line)?;
@@ -121,11 +130,51 @@ fn report_all<R: BufRead, W: Write>(
     };
     if !more {
         let list = known.file;
-        let reading = Reading::new(alloc, options, known.entries, header)?;
+        let reading = Reading::new(alloc, options, known.entries, reaches, header)?;
         let some = reading.finish(file, list, None, out)?;
         return Ok(some);
     }
-    report_lines(alloc, options, known, file, header, input, &mut line, out)
+    report_lines(
+        alloc, options, known, reaches, file, header, input, &mut line, out,
+    )
+}
+
+/// Whether some entry has a reach.
+fn asks_for_reach(known: &[Known]) -> bool
+    ensures { result ≡ list_any (λ k. is_some k.reach) known.now }
+{
+    known.iter().any(|entry| entry.reach.is_some())
+}
+
+/// The text of a trace, whole.
+fn read_whole<R: Read>(alloc: Global, input: &mut R) -> Result<Vec<u8>, ReadingFault>
+    ensures ok { IfOk result (λ text. IfSome (R.remaining input.old) (λ left. text.items ≡ left)) }
+    ensures err { IfErr result IsReadFault }
+{
+    let mut text = Vec::new(alloc);
+    match input.read_to_end(&mut text) {
+        Ok(_) => Ok(text),
+        Err(error) => Err(read_fault(&error)),
+    }
+}
+
+/// Reports a trace by a list that asks for the reach of findings: it is read whole, and judged before.
+fn report_whole<R: Read + Drop, W: Write>(
+    alloc: Global,
+    options: Options,
+    known: KnownList<'_>,
+    file: &[u8],
+    input: R,
+    out: &mut W,
+) -> Result<bool, ReportFault>
+    ensures { (text : List ℕ) × IfSome (R.remaining input) (λ left. text ≡ left)
+        × EndsAs true (told_of options (known_in known.entry) file.now) text result
+        (W.contents out.old) (W.contents out.new) }
+{
+    let text = read_whole(alloc, &mut Retrying { inner: input })?;
+    let reaches = reaches_of(alloc, options.filter, text.as_slice())?;
+    let mut rest = text.as_slice();
+    report_all(alloc, options, known, reaches, file, &mut rest, out)
 }
 
 /// Reads a trace to its end, from the file of this name. Writes what the detail asks for as soon as a
@@ -134,7 +183,8 @@ fn report_all<R: BufRead, W: Write>(
 /// Of verdicts that the filter does not take nothing is told, and they count for nothing. So the first
 /// verdict of a finding is the first that the filter takes, and its cause has the word of that one.
 /// Of the verdicts of a finding that is known to be by design nothing is told either, and they count for
-/// nothing: it is counted once, for the first entry of the list that matches its first verdict.
+/// nothing: it is counted once, for the first entry of the list that matches its first verdict. If an
+/// entry has a reach, the trace is read whole and judged before anything of it is told.
 ///
 /// What was written before a fault stays. At `Line` it is all that of the records before the line, with
 /// the last lines, or nothing if it is the first. At the others it is what is told of some of the
@@ -148,10 +198,23 @@ pub fn report_trace<R: Read + Drop, W: Write>(
     out: &mut W,
 ) -> Result<bool, ReportFault>
     ensures { (text : List ℕ) × IfSome (R.remaining input) (λ left. text ≡ left)
-        × Ends (told_of options (known_in known.entry) file.now) text result (W.contents out.old) (W.contents out.new) }
+        × EndsJudged (told_of options (known_in known.entry) file.now) text result
+        (W.contents out.old) (W.contents out.new) }
 {
+    if asks_for_reach(known.entries.as_slice()) {
+        return report_whole(alloc, options, known, file.as_bytes(), input, out);
+    }
     let Ok(mut reader) = BufReader::new(alloc, Retrying { inner: input }) else {
         return Err(ReportFault::NoMemory);
     };
-    report_all(alloc, options, known, file.as_bytes(), &mut reader, out)
+    let reaches = KnownReaches::none(alloc);
+    report_all(
+        alloc,
+        options,
+        known,
+        reaches,
+        file.as_bytes(),
+        &mut reader,
+        out,
+    )
 }

@@ -51,6 +51,7 @@ impl Telling {
     }
 
     /// The text at the next record, which has this trigger and these warnings.
+    #[inline(always)]
     pub(crate) fn at_record(
         &mut self,
         alloc: Global,
@@ -74,6 +75,9 @@ impl Telling {
         let most = self.options.most;
         match &mut self.kept {
             Kept::Verdicts(left) => {
+                if warnings.is_empty() {
+                    return Ok(Vec::new(alloc));
+                }
                 let told = at_most(*left, warnings);
                 *left = left_after(*left, warnings.len());
                 lines_by(alloc, form, file, trigger, newest, past, told)
@@ -100,8 +104,8 @@ impl Telling {
     {
         match &self.kept {
             Kept::Causes(causes) => {
-                let told = at_most(self.options.most, causes.tallies());
-                push_totals(alloc, self.options.form, text, file, past, told)
+                let (form, most) = (self.options.form, self.options.most);
+                push_totals(alloc, form, most, text, file, past, causes)
             }
             Kept::Verdicts(_) | Kept::Counts => Ok(()),
         }

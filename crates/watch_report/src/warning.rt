@@ -3,6 +3,7 @@ ghost use Rattle.std.specs.Prelude.{◌≡◌, ◌++◌, OnOk, codes};
 ghost use Rattle.watch_report.specs.Warnings.{by_text, trigger_part, trigger_text, entry_text, frames_text, holder_part, letter_or_dash, letters_text, owner_prefix, place_text, scoped_text, since_part, verdict_of, verdict_part, verdict_text, warning_line};
 
 use crate::push::{push, push_decimal, push_hexadecimal, push_number};
+use crate::shown::push_shown;
 use pte::PteFlags;
 use std::alloc::AllocError;
 use tlb::Entry;
@@ -129,7 +130,7 @@ fn push_by(text: &mut Vec<u8>, by: &[u8]) -> Result<(), AllocError>
         return Ok(());
     }
     push(text, b" by ")?;
-    push(text, by)
+    push_shown(text, by)
 }
 
 /// Adds frames, and what was done with them.

@@ -35,4 +35,9 @@ pub fn worked_orders()
     ensures kernels_first { lines.kernels_first }
     ensures fewer_first { lines.fewer_first }
     ensures last_first { lines.last_first }
+    ensures by_reach { lines.by_reach }
+    ensures reuse_before_reach { lines.reuse_before_reach }
+    ensures users_before_reach { lines.users_before_reach }
+    ensures more_before_used { lines.more_before_used }
+    ensures not_reached_before_reachable { lines.not_reached_before_reachable }
 {}

@@ -63,4 +63,6 @@ pub fn each_object_is_on_a_line()
     ensures totals { laws.each_total }
     ensures known { laws.each_known }
     ensures summaries { laws.each_summary }
+    ensures findings { laws.each_finding }
+    ensures notes { laws.each_note }
 {}

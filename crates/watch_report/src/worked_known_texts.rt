@@ -27,6 +27,9 @@ pub fn worked_known_lists()
     ensures note_in_a_note { lists.note_in_a_note }
     ensures empty_note { lists.empty_note }
     ensures note_of_any_bytes { lists.note_of_any_bytes }
+    ensures used_alone { lists.used_alone }
+    ensures reachable_alone { lists.reachable_alone }
+    ensures reach_before_addresses { lists.reach_before_addresses }
     ensures with_all { lists.with_all }
 {}
 
@@ -39,6 +42,9 @@ pub fn worked_known_faults()
     ensures verdict_with_its_owner { lists.verdict_with_its_owner }
     ensures verdict_alone { lists.verdict_alone }
     ensures other_reason { lists.other_reason }
+    ensures other_reach { lists.other_reach }
+    ensures two_reaches { lists.two_reaches }
+    ensures reach_behind_addresses { lists.reach_behind_addresses }
     ensures prefixed_address { lists.prefixed_address }
     ensures long_address { lists.long_address }
     ensures start_alone { lists.start_alone }

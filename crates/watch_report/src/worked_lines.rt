@@ -89,6 +89,7 @@ pub fn worked_refusals()
 pub fn worked_warnings()
     ensures given_back { warnings.given_back }
     ensures given_out { warnings.given_out }
+    ensures other_bytes { warnings.other_bytes }
     ensures below_a_global_pointer { warnings.below_a_global_pointer }
     ensures claimed { warnings.claimed }
     ensures used { warnings.used }

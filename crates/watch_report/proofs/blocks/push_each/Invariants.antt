@@ -7,4 +7,4 @@ use Rattle.watch_report.proofs.blocks.push_each.Given as goal
 abbrev pub invariant-loop-one : goal.invariant-loop-one
 invariant-loop-one l =
     (records : List Noted) → ArePast records l.past
-    → l.text.items ++ total_lines l.form l.file records (drop l.one-index l.ones) ≡ l.fn.text.items ++ total_lines l.form l.file records l.ones
+    → l.text.items ++ total_lines l.form l.file records l.founds (drop l.one-index l.ones) ≡ l.fn.text.items ++ total_lines l.form l.file records l.founds l.ones

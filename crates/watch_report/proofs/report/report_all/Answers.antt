@@ -1,4 +1,4 @@
-use Rattle.std.proofs.Common.{◌≡◌, [], List, ℕ, None, Some, Ok, Err, ap, subst, sym, ◌∙◌, true, false, rules, map}
+use Rattle.std.proofs.Common.{◌≡◌, [], List, ℕ, None, Some, Ok, Err, ap, subst, sym, ◌∙◌, true, false, rules}
 use Rattle.std.proofs.KnownBytes.{Appends-nil}
 use Rattle.std.proofs.lemmas.Result.{err_from_is_err_and}
 use Rattle.watch_report.specs.Fields.{fields_of}
@@ -8,8 +8,9 @@ use Rattle.watch_report.specs.TraceLines.{header_in}
 use Rattle.watch_report.specs.Reading.{report_fault_of}
 use Rattle.watch_report.specs.Reading.{ReadsLine, Stands}
 use Rattle.watch_report.specs.TraceText.{lines_of, or_line, said_first}
-use Rattle.watch_causes.specs.KnownFindings.{known_entry}
-use Rattle.watch_report.specs.KnownLists.{known_in}
+use Rattle.watch_causes.specs.KnownReaches.{reach_in}
+use Rattle.watch_causes.specs.KnownSoFar.{entries_by}
+use Rattle.watch_report.specs.TraceReaches.{known_by}
 use Rattle.watch_report.specs.Reports.{told_of}
 use Rattle.watch_report.specs.declared.fault.ReportFault.TheVariants as reported
 use Rattle.watch_report.specs.declared.reading_fault.ReadingFault.TheVariants as Reading
@@ -22,7 +23,7 @@ returns-in_err-more g c =
     let p = err_from_is_err_and c.from_residual.result c.from_residual.ensures.1 in
     let torn = c.in_err-more.ensures.err in
     let whole = torn_text _ _ (g.R.Read.remaining c.read_line.new.input) [] torn.0 (none_read _) torn.1 in
-    rw (p.1, p.2) (without_a_line (told_of c.args.options (known_in c.args.known) c.args.file.now) _ whole.text c.in_err-more.field-0.0 (g.W.Write.contents c.args.out.now) whole.is_left c.in_err-more.ensures.fault)
+    rw (p.1, p.2) (without_a_line (told_of c.args.options (known_by (reach_in c.args.reaches) c.args.known) c.args.file.now) _ whole.text c.in_err-more.field-0.0 (g.W.Write.contents c.args.out.now) whole.is_left c.in_err-more.ensures.fault)
 
 pub returns-in_default : goal.returns-in_default
 returns-in_default g c =
@@ -32,7 +33,7 @@ returns-in_default g c =
     ap (λ (l : List ℕ). header_in (fields_of l)) (sym c.as_slice-text.ensures.value) ∙ sym c.read_header.ensures ∙ c.in_default.is in
     let said : said_first first ≡ Err first = ap (or_line first) none in
     let told : IsAtLine 1 (header_fault first) (Ok false) c.first_line_fault.result = subst (λ (l : List ℕ). IsAtLine 1 (header_fault l) (Ok false) c.first_line_fault.result) c.as_slice-text.ensures.value c.first_line_fault.ensures in
-    with_header (told_of c.args.options (known_in c.args.known) c.args.file.now) _ first whole.0 (Err first) (Err c.first_line_fault.result) (g.W.Write.contents c.args.out.now) (g.W.Write.contents c.args.out.now) whole.1 said (ends_without_header (told_of c.args.options (known_in c.args.known) c.args.file.now) c.first_line_fault.result first whole.0 _ told)
+    with_header (told_of c.args.options (known_by (reach_in c.args.reaches) c.args.known) c.args.file.now) _ first whole.0 (Err first) (Err c.first_line_fault.result) (g.W.Write.contents c.args.out.now) (g.W.Write.contents c.args.out.now) whole.1 said (ends_without_header (told_of c.args.options (known_by (reach_in c.args.reaches) c.args.known) c.args.file.now) c.first_line_fault.result first whole.0 _ told)
 
 pub first_line_fault-requires : goal.first_line_fault-requires
 first_line_fault-requires g c = sym c.read_header.ensures ∙ c.in_default.is
@@ -48,7 +49,7 @@ returns-in_err-reading g c =
     let some : header_in (fields_of first) ≡ Some c.in-Some.header =
     ap (λ (l : List ℕ). header_in (fields_of l)) (sym c.as_slice-text.ensures.value) ∙ sym c.read_header.ensures ∙ c.in-Some.is in
     let said : said_first first ≡ Ok c.in-Some.header = ap (or_line first) some in
-    let about = told_of c.args.options (known_in c.args.known) c.args.file.now in
+    let about = told_of c.args.options (known_by (reach_in c.args.reaches) c.args.known) c.args.file.now in
     let ends = ends_unbegun about Reading.NoMemory (Ok c.in-Some.header) [] (g.W.Write.contents c.args.out.now) tt in
     rw (p.1, p.2, c.in_err-reading.ensures.err) (with_header about _ first [] (Ok c.in-Some.header) (Err reported.NoMemory) (g.W.Write.contents c.args.out.now) (g.W.Write.contents c.args.out.now) whole said ends)
 
@@ -62,10 +63,10 @@ returns-in_err-some g c =
     let some : header_in (fields_of first) ≡ Some c.in-Some.header =
     ap (λ (l : List ℕ). header_in (fields_of l)) (sym c.as_slice-text.ensures.value) ∙ sym c.read_header.ensures ∙ c.in-Some.is in
     let said : said_first first ≡ Ok c.in-Some.header = ap (or_line first) some in
-    let stands : Stands (told_of c.args.options (known_in c.args.known) c.args.file.now) (g.W.Write.contents c.args.out.now) (g.W.Write.contents c.args.out.now) [] c.in_ok-reading.reading = record { taken = []; seen = c.in_ok-reading.ensures.seen c.args.known.file.now; written = Appends-nil _ } in
-    let fails = failed_end (told_of c.args.options (known_in c.args.known) c.args.file.now) None _ _ c.in-Some.header [] _ _ c.in_ok-reading.ensures.header (c.in_err-some.ensures.err c.args.options (map known_entry c.args.known.entries.items) _ [] stands) in
-    let ends = ends_undone (told_of c.args.options (known_in c.args.known) c.args.file.now) _ c.in-Some.header [] [] _ _ (none_taken c.in-Some.header) fails in
-    rw (p.1, p.2) (with_header (told_of c.args.options (known_in c.args.known) c.args.file.now) _ first [] (Ok c.in-Some.header) (Err (report_fault_of c.in_err-some.field-0.0)) (g.W.Write.contents c.args.out.now) (g.W.Write.contents c.finish.new.out) whole said ends)
+    let stands : Stands (told_of c.args.options (known_by (reach_in c.args.reaches) c.args.known) c.args.file.now) (g.W.Write.contents c.args.out.now) (g.W.Write.contents c.args.out.now) [] c.in_ok-reading.reading = record { taken = []; seen = c.in_ok-reading.ensures.seen c.args.known.file.now; written = Appends-nil _ } in
+    let fails = failed_end (told_of c.args.options (known_by (reach_in c.args.reaches) c.args.known) c.args.file.now) None _ _ c.in-Some.header [] _ _ c.in_ok-reading.ensures.header (c.in_err-some.ensures.err c.args.options (entries_by (reach_in c.args.reaches) c.args.known.entries.items) _ [] stands) in
+    let ends = ends_undone (told_of c.args.options (known_by (reach_in c.args.reaches) c.args.known) c.args.file.now) _ c.in-Some.header [] [] _ _ (none_taken c.in-Some.header) fails in
+    rw (p.1, p.2) (with_header (told_of c.args.options (known_by (reach_in c.args.reaches) c.args.known) c.args.file.now) _ first [] (Ok c.in-Some.header) (Err (report_fault_of c.in_err-some.field-0.0)) (g.W.Write.contents c.args.out.now) (g.W.Write.contents c.finish.new.out) whole said ends)
 
 pub returns-then-not-more : goal.returns-then-not-more
 returns-then-not-more g c =
@@ -76,10 +77,10 @@ returns-then-not-more g c =
     let some : header_in (fields_of first) ≡ Some c.in-Some.header =
     ap (λ (l : List ℕ). header_in (fields_of l)) (sym c.as_slice-text.ensures.value) ∙ sym c.read_header.ensures ∙ c.in-Some.is in
     let said : said_first first ≡ Ok c.in-Some.header = ap (or_line first) some in
-    let stands : Stands (told_of c.args.options (known_in c.args.known) c.args.file.now) (g.W.Write.contents c.args.out.now) (g.W.Write.contents c.args.out.now) [] c.in_ok-reading.reading = record { taken = []; seen = c.in_ok-reading.ensures.seen c.args.known.file.now; written = Appends-nil _ } in
-    let written = written_end (told_of c.args.options (known_in c.args.known) c.args.file.now) None _ _ c.in-Some.header [] _ _ c.in_ok-reading.ensures.header (c.in_ok-some.ensures.ok c.args.options (map known_entry c.args.known.entries.items) _ [] stands) in
-    let ends = ends_done (told_of c.args.options (known_in c.args.known) c.args.file.now) _ c.in-Some.header [] [] _ _ (none_taken c.in-Some.header) written in
-    with_header (told_of c.args.options (known_in c.args.known) c.args.file.now) _ first [] (Ok c.in-Some.header) (Ok c.in_ok-some.some) (g.W.Write.contents c.args.out.now) (g.W.Write.contents c.finish.new.out) whole said ends
+    let stands : Stands (told_of c.args.options (known_by (reach_in c.args.reaches) c.args.known) c.args.file.now) (g.W.Write.contents c.args.out.now) (g.W.Write.contents c.args.out.now) [] c.in_ok-reading.reading = record { taken = []; seen = c.in_ok-reading.ensures.seen c.args.known.file.now; written = Appends-nil _ } in
+    let written = written_end (told_of c.args.options (known_by (reach_in c.args.reaches) c.args.known) c.args.file.now) None _ _ c.in-Some.header [] _ _ c.in_ok-reading.ensures.header (c.in_ok-some.ensures.ok c.args.options (entries_by (reach_in c.args.reaches) c.args.known.entries.items) _ [] stands) in
+    let ends = ends_done (told_of c.args.options (known_by (reach_in c.args.reaches) c.args.known) c.args.file.now) _ c.in-Some.header [] [] _ _ (none_taken c.in-Some.header) written in
+    with_header (told_of c.args.options (known_by (reach_in c.args.reaches) c.args.known) c.args.file.now) _ first [] (Ok c.in-Some.header) (Ok c.in_ok-some.some) (g.W.Write.contents c.args.out.now) (g.W.Write.contents c.finish.new.out) whole said ends
 
 pub returns : goal.returns
 returns g c =
@@ -91,4 +92,4 @@ returns g c =
     let some : header_in (fields_of first) ≡ Some c.in-Some.header =
     ap (λ (l : List ℕ). header_in (fields_of l)) (sym c.as_slice-text.ensures.value) ∙ sym c.read_header.ensures ∙ c.in-Some.is in
     let said : said_first first ≡ Ok c.in-Some.header = ap (or_line first) some in
-    with_header (told_of c.args.options (known_in c.args.known) c.args.file.now) _ first (lines_of rest.0) (Ok c.in-Some.header) c.report_lines.result (g.W.Write.contents c.args.out.now) (g.W.Write.contents c.report_lines.new.out) whole said rest.2
+    with_header (told_of c.args.options (known_by (reach_in c.args.reaches) c.args.known) c.args.file.now) _ first (lines_of rest.0) (Ok c.in-Some.header) c.report_lines.result (g.W.Write.contents c.args.out.now) (g.W.Write.contents c.report_lines.new.out) whole said rest.2

@@ -1,12 +1,13 @@
-use Rattle.std.proofs.Common.{◌≡◌, ◌∷◌, ◌++◌, [], None, Some, Ok, Err, length-append, subst, ◌∙◌, arith, ap, not, refl, true, false, rules, map}
+use Rattle.std.proofs.Common.{◌≡◌, ◌∷◌, ◌++◌, [], None, Some, Ok, Err, length-append, subst, ◌∙◌, arith, ap, not, refl, true, false, rules}
 use Rattle.std.specs.Option.{unwrap_or}
 use Rattle.std.proofs.KnownBytes.{Appends-nil}
 use Rattle.std.proofs.lemmas.Result.{err_from_is_err_and}
 use Rattle.watch_report.specs.declared.fault.ReportFault.TheVariants.{NoMemory}
 use Rattle.watch_report.specs.Reading.{ReadsLine, report_fault_of}
 use Rattle.watch_report.specs.TraceText.{lines_of}
-use Rattle.watch_causes.specs.KnownFindings.{known_entry}
-use Rattle.watch_report.specs.KnownLists.{known_in}
+use Rattle.watch_causes.specs.KnownReaches.{reach_in}
+use Rattle.watch_causes.specs.KnownSoFar.{entries_by}
+use Rattle.watch_report.specs.TraceReaches.{known_by}
 use Rattle.watch_report.specs.Reports.{told_of}
 use Rattle.watch_report.specs.declared.reading_fault.ReadingFault.TheVariants as Reading
 use Rattle.watch_report.proofs.ReadLemmas.{all_text, last_text, line_text, more_read, more_taken, none_read, none_taken, some_text, torn_text}
@@ -28,7 +29,7 @@ loop-number-init g c = (
 pub returns-in_err-reading : goal.returns-in_err-reading
 returns-in_err-reading g c =
     let p = err_from_is_err_and c.from_residual.result c.from_residual.ensures.1 in
-    let about = told_of c.args.options (known_in c.args.known) c.args.file.now in
+    let about = told_of c.args.options (known_by (reach_in c.args.reaches) c.args.known) c.args.file.now in
     let text = unwrap_or (g.R.Read.remaining c.args.input.now) [] in
     rw (p.1, p.2, c.in_err-reading.ensures.err) (text, all_text _, ends_unbegun about Reading.NoMemory (Ok c.args.header) (lines_of text) (g.W.Write.contents c.args.out.now) tt)
 
@@ -39,17 +40,17 @@ returns-in_err-more g c =
     let torn = c.in_err-more.ensures.err in
     let whole = torn_text _ _ _ i.0 torn.0 i.2 torn.1 in
     let tail = lines_of (torn.0 ++ unwrap_or (g.R.Read.remaining c.read_line.new.input) []) in
-    let ends = ends_unread (told_of c.args.options (known_in c.args.known) c.args.file.now) _ c.args.header i.0 tail i.1 _ _ c.in_err-more.ensures.fault i.3 (written_of (told_of c.args.options (known_in c.args.known) c.args.file.now) _ _ c.args.header i.1 _ i.5 i.4) in
-    rw (p.1, p.2) (with_text (told_of c.args.options (known_in c.args.known) c.args.file.now) _ _ (Ok c.args.header) (Err (report_fault_of c.in_err-more.field-0.0)) (g.W.Write.contents c.args.out.now) (g.W.Write.contents c.loop-number.out) whole ends)
+    let ends = ends_unread (told_of c.args.options (known_by (reach_in c.args.reaches) c.args.known) c.args.file.now) _ c.args.header i.0 tail i.1 _ _ c.in_err-more.ensures.fault i.3 (written_of (told_of c.args.options (known_by (reach_in c.args.reaches) c.args.known) c.args.file.now) _ _ c.args.header i.1 _ i.5 i.4) in
+    rw (p.1, p.2) (with_text (told_of c.args.options (known_by (reach_in c.args.reaches) c.args.known) c.args.file.now) _ _ (Ok c.args.header) (Err (report_fault_of c.in_err-more.field-0.0)) (g.W.Write.contents c.args.out.now) (g.W.Write.contents c.loop-number.out) whole ends)
 
 pub returns-in_err-taken : goal.returns-in_err-taken
 returns-in_err-taken g c =
     let i = c.loop-number.invariant in
     let p = err_from_is_err_and c.from_residual-in_err-taken.result c.from_residual-in_err-taken.ensures.1 in
     let whole = line_text _ _ _ _ i.0 _ i.2 c.in_ok-more.ensures.ok in
-    let fails = failed_line (told_of c.args.options (known_in c.args.known) c.args.file.now) _ _ c.args.header c.loop-number.number _ c.read_line.new.line.items i.1 _ _ i.5 c.as_slice-text.ensures.value (c.in_err-taken.ensures.err c.args.options (known_in c.args.known) _ i.1 i.4) in
-    let ends = ends_at_line (told_of c.args.options (known_in c.args.known) c.args.file.now) _ c.args.header c.loop-number.number i.0 whole.0 _ i.1 _ _ i.6 i.3 fails in
-    rw (p.1, p.2) (with_text (told_of c.args.options (known_in c.args.known) c.args.file.now) _ _ (Ok c.args.header) (Err (report_fault_of c.in_err-taken.field-0.0)) (g.W.Write.contents c.args.out.now) (g.W.Write.contents c.take_line.new.out) whole.1 ends)
+    let fails = failed_line (told_of c.args.options (known_by (reach_in c.args.reaches) c.args.known) c.args.file.now) _ _ c.args.header c.loop-number.number _ c.read_line.new.line.items i.1 _ _ i.5 c.as_slice-text.ensures.value (c.in_err-taken.ensures.err c.args.options (known_by (reach_in c.args.reaches) c.args.known) _ i.1 i.4) in
+    let ends = ends_at_line (told_of c.args.options (known_by (reach_in c.args.reaches) c.args.known) c.args.file.now) _ c.args.header c.loop-number.number i.0 whole.0 _ i.1 _ _ i.6 i.3 fails in
+    rw (p.1, p.2) (with_text (told_of c.args.options (known_by (reach_in c.args.reaches) c.args.known) c.args.file.now) _ _ (Ok c.args.header) (Err (report_fault_of c.in_err-taken.field-0.0)) (g.W.Write.contents c.args.out.now) (g.W.Write.contents c.take_line.new.out) whole.1 ends)
 
 pub fault_of_line-requires : goal.fault_of_line-requires
 fault_of_line-requires g c =
@@ -62,12 +63,12 @@ pub returns-then-not-taken : goal.returns-then-not-taken
 returns-then-not-taken g c =
     let i = c.loop-number.invariant in
     let line = c.read_line.new.line.items in
-    let about = told_of c.args.options (known_in c.args.known) c.args.file.now in
+    let about = told_of c.args.options (known_by (reach_in c.args.reaches) c.args.known) c.args.file.now in
     let e : c.in_ok-taken.taken ≡ false = search rules in
     let whole = line_text _ _ _ _ i.0 line i.2 c.in_ok-more.ensures.ok in
     let none = formed_line true _ c.args.header _ line i.5 c.as_slice-text.ensures.value (c.in_ok-taken.ensures.form ∙ ap not e) in
-    let stands = took_none about c.args.header c.loop-number.number line i.1 _ _ c.take_line.new.self none (took_line about _ c.args.header c.loop-number.number _ line i.1 _ _ c.take_line.new.self i.5 c.as_slice-text.ensures.value (c.in_ok-taken.ensures.ok c.args.options (known_in c.args.known) _ i.1 i.4)) in
-    let does = finishes about (Some c.loop-number.number) _ c.args.header i.1 _ _ c.finish-finished.result (c.take_line.ensures.header ∙ i.5) (c.finish-finished.ensures.ok c.args.options (map known_entry c.args.known.entries.items) _ i.1 stands) (c.finish-finished.ensures.err c.args.options (map known_entry c.args.known.entries.items) _ i.1 stands) in
+    let stands = took_none about c.args.header c.loop-number.number line i.1 _ _ c.take_line.new.self none (took_line about _ c.args.header c.loop-number.number _ line i.1 _ _ c.take_line.new.self i.5 c.as_slice-text.ensures.value (c.in_ok-taken.ensures.ok c.args.options (known_by (reach_in c.args.reaches) c.args.known) _ i.1 i.4)) in
+    let does = finishes about (Some c.loop-number.number) _ c.args.header i.1 _ _ c.finish-finished.result (c.take_line.ensures.header ∙ i.5) (c.finish-finished.ensures.ok c.args.options (entries_by (reach_in c.args.reaches) c.args.known.entries.items) _ i.1 stands) (c.finish-finished.ensures.err c.args.options (entries_by (reach_in c.args.reaches) c.args.known.entries.items) _ i.1 stands) in
     let told = told_line _ c.args.header _ line _ _ c.as_slice-text.ensures.value c.fault_of_line.ensures in
     let ends = ends_at_fault about c.finish-finished.result c.fault_of_line.result c.args.header c.loop-number.number i.0 whole.0 line i.1 _ _ i.6 i.3 none told does in
     with_text about _ _ (Ok c.args.header) (Err c.fault_of_line.result) (g.W.Write.contents c.args.out.now) (g.W.Write.contents c.finish-finished.new.out) whole.1 ends
@@ -83,11 +84,11 @@ returns-in_err-some g c =
     let read = subst (ReadsLine _ _ line) e c.in_ok-more.ensures.ok in
     let whole = last_text _ _ _ i.0 line i.2 read in
     let formed = formed_line false _ c.args.header _ line i.5 c.as_slice-text.ensures.value (c.in_ok-taken.ensures.form ∙ ap not t) in
-    let took = took_line (told_of c.args.options (known_in c.args.known) c.args.file.now) _ c.args.header c.loop-number.number _ line i.1 _ _ c.take_line.new.self i.5 c.as_slice-text.ensures.value (c.in_ok-taken.ensures.ok c.args.options (known_in c.args.known) _ i.1 i.4) in
+    let took = took_line (told_of c.args.options (known_by (reach_in c.args.reaches) c.args.known) c.args.file.now) _ c.args.header c.loop-number.number _ line i.1 _ _ c.take_line.new.self i.5 c.as_slice-text.ensures.value (c.in_ok-taken.ensures.ok c.args.options (known_by (reach_in c.args.reaches) c.args.known) _ i.1 i.4) in
     let taken = more_taken c.args.header i.0 c.loop-number.number line i.1 i.6 i.3 formed in
-    let fails = failed_end (told_of c.args.options (known_in c.args.known) c.args.file.now) None _ _ c.args.header _ _ _ (c.take_line.ensures.header ∙ i.5) (c.in_err-some.ensures.err c.args.options (map known_entry c.args.known.entries.items) _ _ took) in
-    let ends = ends_undone (told_of c.args.options (known_in c.args.known) c.args.file.now) _ c.args.header _ _ _ _ taken fails in
-    rw (p.1, p.2) (with_text (told_of c.args.options (known_in c.args.known) c.args.file.now) _ _ (Ok c.args.header) (Err (report_fault_of c.in_err-some.field-0.0)) (g.W.Write.contents c.args.out.now) (g.W.Write.contents c.finish.new.out) whole ends)
+    let fails = failed_end (told_of c.args.options (known_by (reach_in c.args.reaches) c.args.known) c.args.file.now) None _ _ c.args.header _ _ _ (c.take_line.ensures.header ∙ i.5) (c.in_err-some.ensures.err c.args.options (entries_by (reach_in c.args.reaches) c.args.known.entries.items) _ _ took) in
+    let ends = ends_undone (told_of c.args.options (known_by (reach_in c.args.reaches) c.args.known) c.args.file.now) _ c.args.header _ _ _ _ taken fails in
+    rw (p.1, p.2) (with_text (told_of c.args.options (known_by (reach_in c.args.reaches) c.args.known) c.args.file.now) _ _ (Ok c.args.header) (Err (report_fault_of c.in_err-some.field-0.0)) (g.W.Write.contents c.args.out.now) (g.W.Write.contents c.finish.new.out) whole ends)
 
 pub returns-then-not-more : goal.returns-then-not-more
 returns-then-not-more g c =
@@ -98,11 +99,11 @@ returns-then-not-more g c =
     let read = subst (ReadsLine _ _ line) e c.in_ok-more.ensures.ok in
     let whole = last_text _ _ _ i.0 line i.2 read in
     let formed = formed_line false _ c.args.header _ line i.5 c.as_slice-text.ensures.value (c.in_ok-taken.ensures.form ∙ ap not t) in
-    let took = took_line (told_of c.args.options (known_in c.args.known) c.args.file.now) _ c.args.header c.loop-number.number _ line i.1 _ _ c.take_line.new.self i.5 c.as_slice-text.ensures.value (c.in_ok-taken.ensures.ok c.args.options (known_in c.args.known) _ i.1 i.4) in
+    let took = took_line (told_of c.args.options (known_by (reach_in c.args.reaches) c.args.known) c.args.file.now) _ c.args.header c.loop-number.number _ line i.1 _ _ c.take_line.new.self i.5 c.as_slice-text.ensures.value (c.in_ok-taken.ensures.ok c.args.options (known_by (reach_in c.args.reaches) c.args.known) _ i.1 i.4) in
     let taken = more_taken c.args.header i.0 c.loop-number.number line i.1 i.6 i.3 formed in
-    let written = written_end (told_of c.args.options (known_in c.args.known) c.args.file.now) None _ _ c.args.header _ _ _ (c.take_line.ensures.header ∙ i.5) (c.in_ok-some.ensures.ok c.args.options (map known_entry c.args.known.entries.items) _ _ took) in
-    let ends = ends_done (told_of c.args.options (known_in c.args.known) c.args.file.now) _ c.args.header _ _ _ _ taken written in
-    with_text (told_of c.args.options (known_in c.args.known) c.args.file.now) _ _ (Ok c.args.header) (Ok c.in_ok-some.some) (g.W.Write.contents c.args.out.now) (g.W.Write.contents c.finish.new.out) whole ends
+    let written = written_end (told_of c.args.options (known_by (reach_in c.args.reaches) c.args.known) c.args.file.now) None _ _ c.args.header _ _ _ (c.take_line.ensures.header ∙ i.5) (c.in_ok-some.ensures.ok c.args.options (entries_by (reach_in c.args.reaches) c.args.known.entries.items) _ _ took) in
+    let ends = ends_done (told_of c.args.options (known_by (reach_in c.args.reaches) c.args.known) c.args.file.now) _ c.args.header _ _ _ _ taken written in
+    with_text (told_of c.args.options (known_by (reach_in c.args.reaches) c.args.known) c.args.file.now) _ _ (Ok c.args.header) (Ok c.in_ok-some.some) (g.W.Write.contents c.args.out.now) (g.W.Write.contents c.finish.new.out) whole ends
 
 pub loop-number-preserved : goal.loop-number-preserved
 loop-number-preserved g c =
@@ -112,7 +113,7 @@ loop-number-preserved g c =
     let t : c.in_ok-taken.taken ≡ true = search rules in
     let read = subst (ReadsLine _ _ line) e c.in_ok-more.ensures.ok in
     let formed = formed_line false _ c.args.header _ line i.5 c.as_slice-text.ensures.value (c.in_ok-taken.ensures.form ∙ ap not t) in
-    let took = took_line (told_of c.args.options (known_in c.args.known) c.args.file.now) _ c.args.header c.loop-number.number _ line i.1 _ _ c.take_line.new.self i.5 c.as_slice-text.ensures.value (c.in_ok-taken.ensures.ok c.args.options (known_in c.args.known) _ i.1 i.4) in (
+    let took = took_line (told_of c.args.options (known_by (reach_in c.args.reaches) c.args.known) c.args.file.now) _ c.args.header c.loop-number.number _ line i.1 _ _ c.take_line.new.self i.5 c.as_slice-text.ensures.value (c.in_ok-taken.ensures.ok c.args.options (known_by (reach_in c.args.reaches) c.args.known) _ i.1 i.4) in (
       i.0 ++ line ∷ [],
       _,
       more_read _ _ _ i.0 line i.2 read,
@@ -126,5 +127,5 @@ pub returns : goal.returns
 returns g c =
     let i = c.loop-number.invariant in
     let whole = some_text _ _ i.0 i.2 in
-    let ends = ends_within (told_of c.args.options (known_in c.args.known) c.args.file.now) c.args.header i.0 (lines_of (unwrap_or (g.R.Read.remaining c.loop-number.input) [])) i.1 _ _ i.3 (written_of (told_of c.args.options (known_in c.args.known) c.args.file.now) _ _ c.args.header i.1 _ i.5 i.4) in
-    with_text (told_of c.args.options (known_in c.args.known) c.args.file.now) _ _ (Ok c.args.header) (Err NoMemory) (g.W.Write.contents c.args.out.now) (g.W.Write.contents c.loop-number.out) whole ends
+    let ends = ends_within (told_of c.args.options (known_by (reach_in c.args.reaches) c.args.known) c.args.file.now) c.args.header i.0 (lines_of (unwrap_or (g.R.Read.remaining c.loop-number.input) [])) i.1 _ _ i.3 (written_of (told_of c.args.options (known_by (reach_in c.args.reaches) c.args.known) c.args.file.now) _ _ c.args.header i.1 _ i.5 i.4) in
+    with_text (told_of c.args.options (known_by (reach_in c.args.reaches) c.args.known) c.args.file.now) _ _ (Ok c.args.header) (Err NoMemory) (g.W.Write.contents c.args.out.now) (g.W.Write.contents c.loop-number.out) whole ends

@@ -1,5 +1,7 @@
 use Rattle.std.proofs.Common.{◌∙◌, ℕ, ap, refl, rules}
 use Rattle.std.specs.Prelude.{replicate}
+use Rattle.watch_causes.specs.KnownFindings.{known_entry, resolved_by}
+use Rattle.watch_causes.specs.KnownReaches.{reach_in}
 use Rattle.watch_causes.proofs.KnownCounts.{no-counts-of}
 use Rattle.watch_causes.proofs.known_findings.KnownFindings.new.Goals as goal
 
@@ -12,5 +14,5 @@ returns c =
       findings = λ some f. search rules;
       counts =
           c.in_ok-counts.ensures.items_if_clones_equal (λ y is. is)
-          ∙ (ap (λ n. replicate {A = ℕ} n 0) (c.len.ensures ∙ c.args.known.ok.0) ∙ no-counts-of c.args.known.items);
+          ∙ (ap (λ n. replicate {A = ℕ} n 0) (c.len.ensures ∙ c.args.known.ok.0) ∙ no-counts-of (λ k. resolved_by (reach_in c.args.reaches) (known_entry k)) c.args.known.items);
     }
