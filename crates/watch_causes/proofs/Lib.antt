@@ -18,6 +18,7 @@ pub mod Masks
 pub mod OpenFences
 pub mod Reaching
 pub mod Returning
+pub mod Concerning
 pub mod WorkedReaches
 pub mod Beginning
 pub mod FencedHarts

@@ -16,6 +16,7 @@ pub mod KnownSoFar
 pub mod WorkedKnown
 pub mod Moves
 pub mod Decisions
+pub mod Concerned
 pub mod Fenced
 pub mod Masks
 pub mod Begins

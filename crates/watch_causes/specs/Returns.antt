@@ -1,5 +1,5 @@
 -- The last moves by which the harts come back to an ASID: a finding that begins behind them is not reached.
-use Rattle.std.specs.Prelude.{ℕ, Bool, true, false, ◌≡◌, ◌==◌, ◌&&◌, ◌+◌, if◌then◌else◌, List, [], ◌∷◌}
+use Rattle.std.specs.Prelude.{ℕ, Bool, true, false, ◌≡◌, ◌==◌, ◌&&◌, ◌+◌, not, nat_le, if◌then◌else◌, List, [], ◌∷◌, Option, Some, None}
 use Rattle.std.specs.BTreeMap.{BTreeMap, get}
 use Rattle.std.specs.List.{list_any}
 use Rattle.std.specs.Option.{unwrap_or}
@@ -38,6 +38,11 @@ visit_cmp a b =
 
 abbrev pub last_in : BTreeMap Visit ℕ → Warning → ℕ
 last_in lasts w = unwrap_or (get visit_cmp lasts (visit_of w)) 0
+
+-- the hart comes back behind the start of a finding, if it has one
+abbrev pub returns_behind : BTreeMap Visit ℕ → Warning → Option ℕ → Bool
+returns_behind lasts w None = false
+returns_behind lasts w (Some start) = not (nat_le (last_in lasts w) start)
 
 -- how many of the moves go up to the last that returns
 abbrev pub last_return : Warning → List Move → ℕ

@@ -1,6 +1,7 @@
 //! What decides whether a hart comes back.
 
-ghost use Rattle.std.specs.Prelude.{◌≡◌};
+ghost use Rattle.std.specs.Prelude.{◌≡◌, slice_get};
+ghost use Rattle.watch_causes.specs.Concerned.{decided_at, decision_by};
 ghost use Rattle.watch_causes.specs.Decisions.{decided, decision, is_late, is_under_asid, takes_it};
 
 use crate::fences::{covers, is_for};
@@ -74,6 +75,40 @@ pub(crate) fn decided(
 {
     for one in moves {
         if let Some(back) = decision(scheme, fences, warning, one) {
+            return Some(back);
+        }
+    }
+    None
+}
+
+/// By the move at that place.
+fn decision_at(
+    scheme: Scheme,
+    fences: &[Numbered],
+    warning: &Warning,
+    moves: &[Move],
+    place: usize,
+) -> Option<bool>
+    ensures { result ≡ decision_by scheme fences.now warning.now (slice_get moves.now place) }
+{
+    match moves.get(place) {
+        Some(one) => decision(scheme, fences, warning, one),
+        None => None,
+    }
+}
+
+/// By the first of the moves at these places that decides.
+pub(crate) fn decided_at(
+    scheme: Scheme,
+    fences: &[Numbered],
+    warning: &Warning,
+    moves: &[Move],
+    places: &[usize],
+) -> Option<bool>
+    ensures { result ≡ decided_at scheme fences.now warning.now moves.now places.now }
+{
+    for place in places {
+        if let Some(back) = decision_at(scheme, fences, warning, moves, *place) {
             return Some(back);
         }
     }

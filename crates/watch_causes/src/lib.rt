@@ -6,6 +6,7 @@
 mod begun;
 mod causes;
 mod choice;
+mod concerned;
 mod decision;
 mod fenced;
 mod fences;

@@ -1,11 +1,13 @@
 //! The findings that have begun, and their reach.
 
-ghost use Rattle.std.specs.Prelude.{◌≡◌, ◌∷◌, ◌++◌, List, [], IfOk, None, OnOk, get_or, is_some, length, map};
+ghost use Rattle.std.specs.Prelude.{ℕ, ◌≡◌, ◌∷◌, ◌++◌, List, [], IfOk, None, OnOk, get_or, is_some, length, map};
 ghost use Rattle.std.specs.BTreeMap.{get};
+ghost use Rattle.std.specs.Ordering.{nat_cmp};
 ghost use Rattle.pte.specs.declared.scheme.Scheme.{Scheme as SchemeOf};
 ghost use Rattle.watch.specs.Trace.{Trace};
 ghost use Rattle.watch.specs.declared.trace.Record.{Record as RecordOf};
 ghost use Rattle.watch_causes.specs.declared.begun.Begun.{Begun as BegunOf};
+ghost use Rattle.watch_causes.specs.Concerned.{AreListed, any_returns};
 ghost use Rattle.watch_causes.specs.Decisions.{comes_from};
 ghost use Rattle.watch_causes.specs.Findings.{Judged, finding_cmp, finding_of};
 ghost use Rattle.watch_causes.specs.Moves.{fence_count, fences_of};
@@ -13,12 +15,12 @@ ghost use Rattle.watch_causes.specs.Reaches.{reach_by, reach_among};
 ghost use Rattle.watch_causes.specs.Returns.{AreLast};
 
 use crate::begun::Begun;
-use crate::decision::decided;
+use crate::concerned::{add_hart, decided_behind};
 use crate::finding::{Finding, finding_of, is_same_verdict};
 use crate::log::Numbered;
-use crate::moves::Moves;
+use crate::moves::{Move, Moves};
 use crate::reach::Reach;
-use crate::returns::{Visit, is_gone, last_returns};
+use crate::returns::{Visit, is_gone, last_returns, returns_behind};
 use pte::Scheme;
 use std::alloc::{AllocError, Global};
 use std::collections::BTreeMap;
@@ -48,6 +50,28 @@ fn start_at(starts: &[Option<usize>], at: usize) -> Option<usize>
         Some(start) => *start,
         None => None,
     }
+}
+
+/// The places of the moves that concern each hart that comes back behind the start of a finding.
+fn places_by_hart(
+    alloc: Global,
+    fences: &[Numbered],
+    moves: &[Move],
+    lasts: &BTreeMap<Visit, usize>,
+    begun: &[Begun],
+    starts: &[Option<usize>],
+) -> Result<BTreeMap<u8, Vec<usize>>, AllocError>
+    ensures listed { IfOk result (AreListed fences.now moves.now) }
+    ensures harts { IfOk result (λ lists. (hart : ℕ) → is_some (get nat_cmp lists hart)
+        ≡ any_returns lasts.now hart begun.now starts.now) }
+{
+    let mut lists = BTreeMap::new(alloc);
+    for (at, one) in begun.iter().enumerate() {
+        if returns_behind(lasts, &one.warning, start_at(starts, at)) {
+            add_hart(alloc, &mut lists, fences, moves, one.warning.hart)?;
+        }
+    }
+    Ok(lists)
 }
 
 fn reach_by(used: bool, back: bool) -> Reach
@@ -129,10 +153,12 @@ impl Reaches {
         scheme: Scheme,
         fences: &[Numbered],
         lasts: &BTreeMap<Visit, usize>,
+        lists: &BTreeMap<u8, Vec<usize>>,
         warning: &Warning,
         start: Option<usize>,
     ) -> bool
-        ensures { AreLast self.now.moves.kept.items lasts.now → result
+        ensures { AreLast self.now.moves.kept.items lasts.now
+            → AreListed fences.now self.now.moves.kept.items lists.now → result
             ≡ comes_from scheme fences.now self.now.moves.kept.items warning.now start }
     {
         let Some(start) = start else {
@@ -141,7 +167,7 @@ impl Reaches {
         if is_gone(lasts, warning, start) {
             return false;
         }
-        match decided(scheme, fences, warning, self.moves.behind(start)) {
+        match decided_behind(scheme, fences, lists, warning, &self.moves, start) {
             Some(back) => back,
             None => false,
         }
@@ -153,17 +179,19 @@ impl Reaches {
         scheme: Scheme,
         fences: &[Numbered],
         lasts: &BTreeMap<Visit, usize>,
+        lists: &BTreeMap<u8, Vec<usize>>,
         begun: &Begun,
         start: Option<usize>,
     ) -> Reach
-        ensures { AreLast self.now.moves.kept.items lasts.now → result
+        ensures { AreLast self.now.moves.kept.items lasts.now
+            → AreListed fences.now self.now.moves.kept.items lists.now → result
             ≡ reach_by (is_some (get finding_cmp self.now.used (finding_of begun.now.warning)))
             (comes_from scheme fences.now self.now.moves.kept.items begun.now.warning start) }
     {
         let used = is_in(&self.used, &finding_of(&begun.warning));
         reach_by(
             used,
-            used || self.comes_back(scheme, fences, lasts, &begun.warning, start),
+            used || self.comes_back(scheme, fences, lasts, lists, &begun.warning, start),
         )
     }
 
@@ -178,11 +206,20 @@ impl Reaches {
             → HasReached scheme trace verdicts begun self.now → fences.now ≡ fences_of trace
             → IfOk result (λ reaches. reaches.items ≡ map (reach_among scheme trace verdicts) begun) }
     {
-        let lasts = last_returns(alloc, self.moves.behind(0))?;
+        let moves = self.moves.behind(0);
+        let lasts = last_returns(alloc, moves)?;
+        let lists = places_by_hart(
+            alloc,
+            fences,
+            moves,
+            &lasts,
+            self.begun.as_slice(),
+            self.starts.as_slice(),
+        )?;
         let mut reaches = Vec::new(alloc);
         for (at, begun) in self.begun.iter().enumerate() {
             let start = start_at(self.starts.as_slice(), at);
-            let reach = self.reach(scheme, fences, &lasts, begun, start);
+            let reach = self.reach(scheme, fences, &lasts, &lists, begun, start);
             reaches.push(reach)?;
         }
         Ok(reaches)

@@ -5,7 +5,7 @@ ghost use Rattle.std.specs.BTreeMap.{get};
 ghost use Rattle.std.specs.Ordering.{is_eq};
 ghost use Rattle.watch_engine.specs.declared.warning.Warning.{Warning as WarningOf};
 ghost use Rattle.watch_causes.specs.declared.returns.Visit.{Visit as VisitOf};
-ghost use Rattle.watch_causes.specs.Returns.{AreLast, any_visit, last_in, returns_to, visit_cmp, visit_of, visit_under};
+ghost use Rattle.watch_causes.specs.Returns.{AreLast, any_visit, last_in, returns_behind, returns_to, visit_cmp, visit_of, visit_under};
 
 use crate::finding::own_asid;
 use crate::moves::Move;
@@ -101,5 +101,19 @@ pub(crate) fn is_gone(lasts: &BTreeMap<Visit, usize>, warning: &Warning, start: 
     match lasts.get(&visit_of(warning)) {
         Some(last) => *last <= start,
         None => true,
+    }
+}
+
+/// The hart comes back behind the start of a finding, if it has one.
+pub(crate) fn returns_behind(
+    lasts: &BTreeMap<Visit, usize>,
+    warning: &Warning,
+    start: Option<usize>,
+) -> bool
+    ensures { result ≡ returns_behind lasts.now warning.now start }
+{
+    match start {
+        Some(start) => !is_gone(lasts, warning, start),
+        None => false,
     }
 }

@@ -5,7 +5,7 @@ use Rattle.watch_causes.proofs.Returning.{gone-away}
 use Rattle.watch_causes.proofs.reaches.Reaches.comes_back.Goals as goal
 
 pub returns-then-is_gone : goal.returns-then-is_gone
-returns-then-is_gone c = λ are.
+returns-then-is_gone c = λ are listed.
     let w = c.args.warning.now in
     let fences = c.args.fences.now in
     let moves = c.args.self.now.moves.kept.items in

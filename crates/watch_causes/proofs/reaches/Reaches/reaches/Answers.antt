@@ -3,6 +3,7 @@ use Rattle.std.specs.BTreeMap.{get}
 use Rattle.std.specs.Prelude.{is_some}
 use Rattle.watch_causes.specs.declared.begun.Begun.{Begun}
 use Rattle.watch_causes.specs.declared.reach.Reach.{Reach}
+use Rattle.watch_causes.specs.Concerned.{AreListed}
 use Rattle.watch_causes.specs.Decisions.{comes_from}
 use Rattle.watch_causes.specs.Findings.{finding_cmp, finding_of}
 use Rattle.watch_causes.specs.Reaches.{reach_among, reach_by}
@@ -25,11 +26,12 @@ loop-at-preserved c = λ trace verdicts begun has same.
     let low : at < length begun = omega (arith, c.loop-at-test.true, ap length items) in
     let own : b ≡ get_or begun at b = c.begun-item.is ∙ ap (λ bs. get_or bs at b) items in
     let start : c.start_at-start.result ≡ get_or self.starts.items at None =
-    c.start_at-start.ensures ∙ ap (λ ss. get_or ss at None) c.as_slice.ensures.value in
+    c.start_at-start.ensures ∙ ap (λ ss. get_or ss at None) c.as_slice-in-loop-at.ensures.value in
     let made : (k : Begun) → (s : Option ℕ) → Reach = λ k s.
     reach_by (is_some (get finding_cmp self.used (finding_of k.warning))) (comes_from scheme c.args.fences.now self.moves.kept.items k.warning s) in
     let reach : c.reach-reach.result ≡ reach_among scheme trace verdicts (get_or begun at b) =
-    c.reach-reach.ensures (subst (λ ms. AreLast ms c.in_ok-lasts.lasts) c.behind.ensures c.in_ok-lasts.ensures)
+    c.reach-reach.ensures (subst (λ ms. AreLast ms c.in_ok-lasts.lasts) c.behind-moves.ensures c.in_ok-lasts.ensures)
+    (subst (λ ms. AreListed c.args.fences.now ms c.in_ok-lists.lists) c.behind-moves.ensures c.in_ok-lists.ensures.listed)
     ∙ (ap (made b) start
     ∙ (ap (λ k. made k (get_or self.starts.items at None)) own
     ∙ reach-from scheme trace verdicts self.moves.kept.items (get_or begun at b) (get_or self.starts.items at None) c.args.fences.now same _ (has.used _) (has.starts at b low))) in
