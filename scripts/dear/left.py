@@ -2,7 +2,7 @@
 import random
 
 from dear import LEAVES, MIDDLE, OTHER_ROOT, ROOT, SPREAD, come_and_go, enter, kind, path
-from trace_lines import EVERY, KERNEL, address, fence, given_out, header, kernel_leaf, leaf, pointer, remote_fence, satp, store
+from trace_lines import EVERY, KERNEL, address, claim, fence, given_out, header, kernel_leaf, leaf, pointer, remote_fence, satp, store
 
 OTHERS = EVERY - 1  # all 64 harts but hart 0
 
@@ -210,3 +210,20 @@ def kernel_below_roots(n):
         yield from come_and_go(0x2002, i % 512, kernel_leaf(0x5000 + i))
         yield fence(i % 4, page)
         yield from remote_fence(0, 1, 0b1111, page, 0x1000)
+
+
+@kind(10000)
+def forgotten_hart_comes_back(n):
+    """A hart leaves a space; n pages are unmapped there, each claimed without a fence of that hart; it comes back at the end."""
+    yield header(4)
+    yield store(ROOT, 0, pointer(MIDDLE))
+    yield from (store(MIDDLE, i, pointer(0x90000 + i)) for i in range((n + 511) // 512))
+    yield from (store(0x90000 + i // 512, i % 512, leaf(0x100000 + i)) for i in range(n))
+    yield from enter((0, 1), ROOT)
+    yield satp(1, OTHER_ROOT, 2)
+    for i in range(n):
+        yield store(0x90000 + i // 512, i % 512)
+        yield fence(0, i << 12, 1)
+        yield from remote_fence(0, 1, 0b1100, i << 12, 0x1000, 1)
+        yield from claim(2, ROOT, i << 12, 0x1000)
+    yield satp(1, ROOT)
