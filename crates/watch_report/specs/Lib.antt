@@ -14,6 +14,7 @@ pub mod WorkedWarnings
 pub mod WorkedCauseLines
 pub mod WorkedNotes
 pub mod TraceText
+pub mod Sources
 pub mod TextEnds
 pub mod NoteTexts
 pub mod LineNumbers

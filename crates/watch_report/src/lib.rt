@@ -3,8 +3,8 @@
 //!
 //! `report_trace` reads the lines of a trace, and writes a line for each verdict or a block for each
 //! cause as soon as its record is read, and a last line with counts, all of the verdicts that a
-//! filter takes: in lines to be read, or in objects of JSON, one on each line. Of what was read it keeps what the watch keeps, the notes, the lines of records, and,
-//! where they are told, the causes.
+//! filter takes: in lines to be read, or in objects of JSON, one on each line. Of what was read it
+//! keeps what the watch keeps, the notes, the lines of records, and, where they are told, the causes.
 //!
 //! `explain_trace` writes the story of one verdict: a trace of few records that alone gives it.
 //! `tell_story` answers it, with what a picture of it shows.
@@ -63,6 +63,7 @@ mod record;
 mod report;
 mod retry;
 mod shown;
+mod source;
 mod story;
 mod story_laws;
 mod story_text;

@@ -133,7 +133,6 @@ impl Reading {
     }
 
     /// Takes the next record, and writes what is told of it.
-    #[inline(always)]
     fn take_record<W: Write>(
         &mut self,
         file: &[u8],
@@ -161,7 +160,6 @@ impl Reading {
 
     /// Takes the next line, which has this number. Whether it has a form: of one that has none nothing
     /// is taken.
-    #[inline(always)]
     pub fn take_line<W: Write>(
         &mut self,
         file: &[u8],

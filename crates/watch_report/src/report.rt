@@ -9,6 +9,7 @@ ghost use Rattle.watch_report.specs.LineFaults.{fault_of, header_fault};
 ghost use Rattle.watch_report.specs.Reports.{told_of};
 ghost use Rattle.watch_report.specs.TraceReaches.{EndsAs, EndsJudged, known_by};
 ghost use Rattle.watch_causes.specs.KnownReaches.{reach_in};
+ghost use Rattle.watch_report.specs.Sources.{left_of};
 ghost use Rattle.watch_report.specs.TraceLines.{header_in};
 ghost use Rattle.watch_report.specs.TraceText.{has_no_form, lines_of};
 
@@ -22,6 +23,7 @@ use crate::options::Options;
 use crate::reading::Reading;
 use crate::reading_fault::ReadingFault;
 use crate::retry::Retrying;
+use crate::source::Source;
 use std::alloc::Global;
 use std::io::{BufRead, BufReader, Read, Write};
 use watch_causes::{Known, KnownReaches};
@@ -158,6 +160,27 @@ fn read_whole<R: Read>(alloc: Global, input: &mut R) -> Result<Vec<u8>, ReadingF
     }
 }
 
+/// Reports a trace: the rest of a reader, or without one a text.
+fn report_source<R: Read + Drop, W: Write>(
+    alloc: Global,
+    options: Options,
+    known: KnownList<'_>,
+    reaches: KnownReaches,
+    file: &[u8],
+    source: Source<'_, R>,
+    out: &mut W,
+) -> Result<bool, ReportFault>
+    ensures { (text : List ℕ)
+        × IfSome (left_of (λ reader. R.remaining reader) source.entry.text.now source.entry.reader) (λ left. text ≡ left)
+        × Ends (told_of options (known_by (reach_in reaches) known.entry) file.now) text result
+        (W.contents out.old) (W.contents out.new) }
+{
+    let Ok(mut reader) = BufReader::new(alloc, source) else {
+        return Err(ReportFault::NoMemory);
+    };
+    report_all(alloc, options, known, reaches, file, &mut reader, out)
+}
+
 /// Reports a trace by a list that asks for the reach of findings: it is read whole, and judged before.
 fn report_whole<R: Read + Drop, W: Write>(
     alloc: Global,
@@ -173,8 +196,11 @@ fn report_whole<R: Read + Drop, W: Write>(
 {
     let text = read_whole(alloc, &mut Retrying { inner: input })?;
     let reaches = reaches_of(alloc, options.filter, text.as_slice())?;
-    let mut rest = text.as_slice();
-    report_all(alloc, options, known, reaches, file, &mut rest, out)
+    let source: Source<'_, R> = Source {
+        text: text.as_slice(),
+        reader: None,
+    };
+    report_source(alloc, options, known, reaches, file, source, out)
 }
 
 /// Reads a trace to its end, from the file of this name. Writes what the detail asks for as soon as a
@@ -204,17 +230,10 @@ pub fn report_trace<R: Read + Drop, W: Write>(
     if asks_for_reach(known.entries.as_slice()) {
         return report_whole(alloc, options, known, file.as_bytes(), input, out);
     }
-    let Ok(mut reader) = BufReader::new(alloc, Retrying { inner: input }) else {
-        return Err(ReportFault::NoMemory);
-    };
     let reaches = KnownReaches::none(alloc);
-    report_all(
-        alloc,
-        options,
-        known,
-        reaches,
-        file.as_bytes(),
-        &mut reader,
-        out,
-    )
+    let source = Source {
+        text: &[],
+        reader: Some(input),
+    };
+    report_source(alloc, options, known, reaches, file.as_bytes(), source, out)
 }

@@ -51,7 +51,6 @@ impl Telling {
     }
 
     /// The text at the next record, which has this trigger and these warnings.
-    #[inline(always)]
     pub(crate) fn at_record(
         &mut self,
         alloc: Global,

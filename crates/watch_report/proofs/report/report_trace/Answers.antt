@@ -36,24 +36,15 @@ returns-then-asks_for_reach g c =
     let r = c.report_whole.ensures in
     (r.0, r.1, judged_by c.args.options c.args.known r.0 c.report_whole.result (g.W.Write.contents c.args.out.now) (g.W.Write.contents c.report_whole.new.out) true c.as_bytes.result.now c.args.file.now asks c.as_bytes.ensures.value r.2)
 
-pub returns-in_default : goal.returns-in_default
-returns-in_default g c =
-    let about = told_of c.args.options (known_in c.args.known) c.args.file.now in
-    let none = asked_by c.args.known.entries.items c.as_slice.result.now c.asks_for_reach.result false c.as_slice.ensures.value c.asks_for_reach.ensures c.if-asks_for_reach.false in
-    let text : List ℕ = unwrap_or (g.R.Read.remaining c.args.input) [] in
-    let out = g.W.Write.contents c.args.out.now in
-    let r = without_a_line about _ text NoMemory out (all_text _) tt in
-    (r.0, r.1, judged_by c.args.options c.args.known r.0 _ out out false c.args.file.now c.args.file.now none refl r.2)
-
 pub returns : goal.returns
 returns g c =
     let none = asked_by c.args.known.entries.items c.as_slice.result.now c.asks_for_reach.result false c.as_slice.ensures.value c.asks_for_reach.ensures c.if-asks_for_reach.false in
     let old = g.W.Write.contents c.args.out.now in
-    let new = g.W.Write.contents c.report_all.new.out in
-    let r = c.report_all.ensures in
+    let new = g.W.Write.contents c.report_source.new.out in
+    let r = c.report_source.ensures in
     let bytes : List ℕ = c.as_bytes-2.result.now in
-    let ends : Ends (told_of c.args.options (known_in c.args.known) bytes) r.0 c.report_all.result old new =
-    subst (λ (known : KnownIn). Ends (told_of c.args.options known bytes) r.0 c.report_all.result old new) (unasked (reach_in c.none-reaches.result) c.args.known none) r.2 in
+    let ends : Ends (told_of c.args.options (known_in c.args.known) bytes) r.0 c.report_source.result old new =
+    subst (λ (known : KnownIn). Ends (told_of c.args.options known bytes) r.0 c.report_source.result old new) (unasked (reach_in c.none-reaches.result) c.args.known none) r.2 in
     let shown = r.1 in
     let left : IfSome (g.R.Read.remaining c.args.input) (λ left. r.0 ≡ left) = search rules in
-    (r.0, left, judged_by c.args.options c.args.known r.0 c.report_all.result old new false bytes c.args.file.now none c.as_bytes-2.ensures.value ends)
+    (r.0, left, judged_by c.args.options c.args.known r.0 c.report_source.result old new false bytes c.args.file.now none c.as_bytes-2.ensures.value ends)

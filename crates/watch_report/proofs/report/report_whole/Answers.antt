@@ -24,12 +24,12 @@ returns-in_err-reaches g c =
 pub returns : goal.returns
 returns g c =
     let old = g.W.Write.contents c.args.out.now in
-    let new = g.W.Write.contents c.report_all.new.out in
+    let new = g.W.Write.contents c.report_source.new.out in
     let text : List ℕ = c.in_ok-text.text.items in
     let reach = reach_in c.in_ok-reaches.reaches in
-    let r = c.report_all.ensures in
+    let r = c.report_source.ensures in
     let told = told_of c.args.options (resolved reach (known_in c.args.known)) c.args.file.now in
     let are : AreReaches c.args.options.filter text reach = subst (λ (t : List ℕ). AreReaches c.args.options.filter t reach) c.as_slice.ensures.value c.in_ok-reaches.ensures.ok in
-    let ends : Ends told r.0 c.report_all.result old new = subst (λ (known : KnownIn). Ends (told_of c.args.options known c.args.file.now) r.0 c.report_all.result old new) (is_resolved reach c.args.known) r.2 in
-    let whole : Ends told text c.report_all.result old new = subst (λ (t : List ℕ). Ends told t c.report_all.result old new) (r.1 ∙ c.as_slice-rest.ensures.value) ends in
+    let ends : Ends told r.0 c.report_source.result old new = subst (λ (known : KnownIn). Ends (told_of c.args.options known c.args.file.now) r.0 c.report_source.result old new) (is_resolved reach c.args.known) r.2 in
+    let whole : Ends told text c.report_source.result old new = subst (λ (t : List ℕ). Ends told t c.report_source.result old new) (r.1 ∙ c.as_slice-2.ensures.value) ends in
     (text, c.in_ok-text.ensures.ok, inr (reach, are, whole))
